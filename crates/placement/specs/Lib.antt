@@ -1,0 +1,11 @@
+pub mod Items
+pub mod Rack
+pub mod Window
+pub mod Disk
+pub mod Method
+pub mod Sharing
+pub mod Records
+pub mod Tables
+pub mod Planning
+pub mod Promise
+pub mod Cases
