@@ -1,1 +1,5 @@
+pub mod Tests
+pub mod Sums
+pub mod Windows
+pub mod Disks
 pub mod CasesHold

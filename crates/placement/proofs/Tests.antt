@@ -1,0 +1,28 @@
+-- Case distinction by a test, and what a test leaves of a choice.
+use mathlib.Core.Path.{_≡_, refl, ap}
+use mathlib.Core.Bool.{Bool, true, false, cond}
+use Prim.Native.Nat.{ℕ, zero, suc, _≤_, _<_}
+use native.Mathlib.Omega.{arith}
+use borrow.Author.Tests.{ltb-true, ltb-false, le-leb, lt-leb}
+use lib.Dec.{leb, ltb}
+
+-- What follows whether the test holds or not.
+pub by-test : {P : Type 0} (b : Bool) → (b ≡ true → P) → (b ≡ false → P) → P
+by-test true held failed = held refl
+by-test false held failed = failed refl
+
+-- What follows whether a is below b or not.
+pub by-order : {P : Type 0} (a b : ℕ) → (a < b → P) → (b ≤ a → P) → P
+by-order a b less more = by-test (ltb a b) (λ e. less (ltb-true a b e)) (λ e. more (ltb-false a b e))
+
+-- A choice by "at least 1".
+pub chosen : {A : Type 0} (a : ℕ) (x y : A) → 1 ≤ a → cond (leb 1 a) x y ≡ x
+chosen a x y h = ap (λ (b : Bool). cond b x y) (le-leb 1 a h)
+
+pub passed : {A : Type 0} (a : ℕ) (x y : A) → a ≡ 0 → cond (leb 1 a) x y ≡ y
+passed a x y h = ap (λ (b : Bool). cond b x y) (lt-leb 1 a (omega arith))
+
+-- An amount counts whether or not it is tested.
+pub amount-chosen : (a : ℕ) → cond (leb 1 a) a 0 ≡ a
+amount-chosen zero = refl
+amount-chosen (suc a) = chosen (suc a) (suc a) 0 (omega arith)
