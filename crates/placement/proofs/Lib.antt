@@ -2,4 +2,13 @@ pub mod Tests
 pub mod Sums
 pub mod Windows
 pub mod Disks
+pub mod Order
+pub mod Steps
+pub mod Ratio
+pub mod SmallLists
+pub mod LargeLists
+pub mod Share
+pub mod Served
+pub mod Lists
+pub mod Square
 pub mod CasesHold
