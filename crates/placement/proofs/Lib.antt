@@ -3,3 +3,9 @@ pub mod Sums
 pub mod Windows
 pub mod Disks
 pub mod CasesHold
+pub mod Films
+pub mod FilmSets
+pub mod Layouts
+pub mod Listed
+pub mod ClosedSet
+pub mod BestSharing
