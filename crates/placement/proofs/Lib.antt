@@ -12,3 +12,9 @@ pub mod Served
 pub mod Lists
 pub mod Square
 pub mod CasesHold
+pub mod Films
+pub mod FilmSets
+pub mod Layouts
+pub mod Listed
+pub mod ClosedSet
+pub mod BestSharing
