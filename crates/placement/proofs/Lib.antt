@@ -9,7 +9,6 @@ pub mod SmallLists
 pub mod LargeLists
 pub mod Share
 pub mod Served
-pub mod Lists
 pub mod Square
 pub mod CasesHold
 pub mod Films
@@ -18,3 +17,4 @@ pub mod Layouts
 pub mod Listed
 pub mod ClosedSet
 pub mod BestSharing
+pub mod Demand3
