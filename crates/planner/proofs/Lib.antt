@@ -1,2 +1,4 @@
-pub mod Items
+pub mod Cuts
+pub mod Places
+pub mod Runs
 pub mod Search

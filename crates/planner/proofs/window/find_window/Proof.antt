@@ -13,7 +13,7 @@ use Rattle.placement.specs.Window.{Window, window, openings, slidings, lastWind
 use Rattle.placement.proofs.Windows.{firstReaching-append, take-min}
 use Rattle.planner.specs.Keys.{itemsOf}
 use Rattle.planner.specs.Search.{Opened}
-use Rattle.planner.proofs.Items.{items-length}
+use Rattle.planner.proofs.Places.{length-itemsOf}
 use Rattle.planner.proofs.window.find_window.Statement.{statement}
 use Rattle.planner.proofs.window.find_window.Tie as tie
 
@@ -74,7 +74,7 @@ returns-2 c =
       slide-found (at-start .args .slots) (at-start .args .load) (itemsOf (at-start .args .keys .now) (at-start .args .n))
           (at-opening .opening .result .count) (at-opening .opening .result .sum) (at-opening .opening .ensures) (at-start .args .n)
           (window (c .slide .result .start) (c .slide .result .size))
-          (items-length (at-start .args .keys .now) (at-start .args .n) (at-start .pre .0 .0)) (c .before .if1 .left) (c .slide .ensures .0),
+          (length-itemsOf (at-start .args .keys .now) (at-start .args .n) (at-start .pre .0 .0)) (c .before .if1 .left) (c .slide .ensures .0),
       c .slide .ensures .1,
     )
 

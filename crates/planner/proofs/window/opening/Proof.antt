@@ -14,7 +14,8 @@ use Rattle.placement.specs.Items.{total}
 use Rattle.placement.specs.Window.{Window, window, series, openings, firstReaching}
 use Rattle.planner.specs.Keys.{itemsOf}
 use Rattle.planner.specs.Search.{Opened}
-use Rattle.planner.proofs.Items.{items-length, prefix-more}
+use Rattle.planner.proofs.Places.{length-itemsOf}
+use Rattle.planner.proofs.Runs.{prefix-more}
 use Rattle.planner.proofs.Search.{search-passes, search-finds}
 use Rattle.planner.proofs.window.opening.Statement.{statement}
 use Rattle.planner.proofs.window.opening.Tie as tie
@@ -52,7 +53,7 @@ module _ (keys : List ℕ) (n slots load most count sum : ℕ) (room : n ≤ len
       ≡ firstReaching load (itemsOf keys n) (series prefix (suc count) (most - count)) other
   goes-on other =
       ap (λ (m : ℕ). firstReaching load (itemsOf keys n) (series prefix 1 m) other)
-      (ap (λ (m : ℕ). min slots m) (items-length keys n room) ∙ sym (p .most-is))
+      (ap (λ (m : ℕ). min slots m) (length-itemsOf keys n room) ∙ sym (p .most-is))
       ∙ p .search other
 
   -- No film is left.
@@ -63,7 +64,7 @@ module _ (keys : List ℕ) (n slots load most count sum : ℕ) (room : n ≤ len
         ∙ ap (λ (m : ℕ). firstReaching load (itemsOf keys n) (series prefix (suc count) m) other) none-left
         ∙ sym (ap (λ (b : Bool). cond b (window 0 count) other) (lt-leb load sum (p .low)));
     sums = p .sums;
-    longest = λ _. omega (arith, p .most-is, p .few, ap (λ (m : ℕ). min slots m) (items-length keys n room));
+    longest = λ _. omega (arith, p .most-is, p .few, ap (λ (m : ℕ). min slots m) (length-itemsOf keys n room));
   }
     where
       none-left : most - count ≡ 0

@@ -10,7 +10,7 @@ use lib.ListN.{length, take, drop, getD}
 use Rattle.placement.specs.Items.{total}
 use Rattle.placement.specs.Window.{Window, window, within, series, slidings, lastWindow, firstReaching}
 use Rattle.planner.specs.Keys.{itemsOf}
-use Rattle.planner.proofs.Items.{items-length, run-moves, run-first, run-whole}
+use Rattle.planner.proofs.Runs.{run-moves, run-first, run-whole}
 use Rattle.planner.proofs.Search.{search-passes, search-finds}
 use Rattle.planner.proofs.window.slide.Statement.{statement}
 use Rattle.planner.proofs.window.slide.Tie as tie

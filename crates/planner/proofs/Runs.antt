@@ -1,21 +1,14 @@
--- The items of the first keys: how many, which, and the sums of prefixes and runs, one item at a time.
+-- Sums of prefixes and runs of the list, one item at a time.
 use mathlib.Core.Path.{_≡_, sym, ap, _∙_, subst}
 use mathlib.Core.List.{List, [], _∷_, _++_}
 use Prim.Native.Nat.{ℕ, zero, suc, _+_, _-_, _/_, _≤_, _<_}
 use native.Mathlib.Omega.{arith}
-use lib.ListN.{length, take, drop, getD, length-map, length-drop, List·getD-map}
-use lib.Seq.{length-take-le, take-all, take-suc, drop-cons, getD-take, getD-drop}
+use lib.ListN.{length, take, drop, getD, length-drop}
+use lib.Seq.{take-all, take-suc, drop-cons, getD-drop}
 use Rattle.placement.specs.Items.{Item, item, total, amountOf}
 use Rattle.placement.proofs.Sums.{sumBy-append}
-use Rattle.planner.specs.Keys.{itemOf, itemsOf}
-
--- The first n keys have n items.
-pub items-length : (keys : List ℕ) (n : ℕ) → n ≤ length keys → length (itemsOf keys n) ≡ n
-items-length keys n h = length-map (take n keys) itemOf ∙ length-take-le n keys h
-
--- The item at a place is that of the key there.
-pub items-at : (keys : List ℕ) (n i : ℕ) → i < n → getD (itemsOf keys n) i (item 0 0) ≡ itemOf (getD keys i 0)
-items-at keys n i h = List·getD-map itemOf (take n keys) i 0 ∙ ap itemOf (getD-take n keys i 0 h)
+use Rattle.planner.specs.Keys.{itemsOf}
+use Rattle.planner.proofs.Places.{length-itemsOf, getD-itemsOf}
 
 -- A prefix with one item more sums to that item's amount more.
 pub total-more : (list : List Item) (i : ℕ) → i < length list → total (take (suc i) list) ≡ total (take i list) + getD list i (item 0 0) .amount
@@ -40,22 +33,22 @@ module _ (keys : List ℕ) (n : ℕ) (room : n ≤ length keys) where
   -- The same of the items of keys.
   pub prefix-more : (i : ℕ) → i < n → total (take (suc i) (itemsOf keys n)) ≡ total (take i (itemsOf keys n)) + getD keys i 0 / 65536
   prefix-more i h =
-      total-more (itemsOf keys n) i (subst (λ (m : ℕ). i < m) (sym (items-length keys n room)) h)
-      ∙ ap (λ (x : Item). total (take i (itemsOf keys n)) + x .amount) (items-at keys n i h)
+      total-more (itemsOf keys n) i (subst (λ (m : ℕ). i < m) (sym (length-itemsOf keys n room)) h)
+      ∙ ap (λ (x : Item). total (take i (itemsOf keys n)) + x .amount) (getD-itemsOf keys n i h)
 
   pub run-moves :
       (k s : ℕ) → s + k < n
       → getD keys s 0 / 65536 + total (take k (drop (suc s) (itemsOf keys n)))
       ≡ total (take k (drop s (itemsOf keys n))) + getD keys (s + k) 0 / 65536
   run-moves k s h =
-      ap (λ (x : Item). x .amount + total (take k (drop (suc s) (itemsOf keys n)))) (sym (items-at keys n s (omega arith)))
-      ∙ total-moves (itemsOf keys n) k s (subst (λ (m : ℕ). s + k < m) (sym (items-length keys n room)) h)
-      ∙ ap (λ (x : Item). total (take k (drop s (itemsOf keys n))) + x .amount) (items-at keys n (s + k) h)
+      ap (λ (x : Item). x .amount + total (take k (drop (suc s) (itemsOf keys n)))) (sym (getD-itemsOf keys n s (omega arith)))
+      ∙ total-moves (itemsOf keys n) k s (subst (λ (m : ℕ). s + k < m) (sym (length-itemsOf keys n room)) h)
+      ∙ ap (λ (x : Item). total (take k (drop s (itemsOf keys n))) + x .amount) (getD-itemsOf keys n (s + k) h)
 
   pub run-first : (k s : ℕ) → 1 ≤ k → s < n → getD keys s 0 / 65536 ≤ total (take k (drop s (itemsOf keys n)))
   run-first k s some h =
-      subst (λ (x : Item). x .amount ≤ total (take k (drop s (itemsOf keys n)))) (items-at keys n s h)
-      (total-first (itemsOf keys n) k s some (subst (λ (m : ℕ). s < m) (sym (items-length keys n room)) h))
+      subst (λ (x : Item). x .amount ≤ total (take k (drop s (itemsOf keys n)))) (getD-itemsOf keys n s h)
+      (total-first (itemsOf keys n) k s some (subst (λ (m : ℕ). s < m) (sym (length-itemsOf keys n room)) h))
 
   -- A run that goes to the end is all that stands from its start on.
   pub run-whole :
@@ -65,4 +58,4 @@ module _ (keys : List ℕ) (n : ℕ) (room : n ≤ length keys) where
       all : (q : ℕ) → n ≤ s + q → take q (drop s (itemsOf keys n)) ≡ drop s (itemsOf keys n)
       all q l =
           take-all q (drop s (itemsOf keys n))
-          (subst (λ (r : ℕ). r ≤ q) (sym (length-drop s (itemsOf keys n) ∙ ap (λ (r : ℕ). r - s) (items-length keys n room))) (omega arith))
+          (subst (λ (r : ℕ). r ≤ q) (sym (length-drop s (itemsOf keys n) ∙ ap (λ (r : ℕ). r - s) (length-itemsOf keys n room))) (omega arith))
