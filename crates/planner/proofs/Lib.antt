@@ -2,3 +2,5 @@ pub mod Cuts
 pub mod Places
 pub mod Runs
 pub mod Search
+pub mod Overwrite
+pub mod Copies
