@@ -26,7 +26,7 @@ module _ (keys : List ℕ) (start size : ℕ) (inside : start + size ≤ length 
       length-map (take size (drop start keys)) itemOf
       ∙ length-take-le size (drop start keys) (subst (λ (n : ℕ). size ≤ n) (sym (length-drop start keys)) (omega arith))
 
-  run-at : (i : ℕ) → i < size → getD (runOf keys start size) i (item 0 0) ≡ itemOf (getD keys (start + i) 0)
+  pub run-at : (i : ℕ) → i < size → getD (runOf keys start size) i (item 0 0) ≡ itemOf (getD keys (start + i) 0)
   run-at i h =
       List·getD-map itemOf (take size (drop start keys)) i 0
       ∙ ap itemOf (getD-take size (drop start keys) i 0 h ∙ getD-drop start keys i 0)

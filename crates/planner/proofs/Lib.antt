@@ -4,3 +4,5 @@ pub mod Runs
 pub mod Search
 pub mod Overwrite
 pub mod Copies
+pub mod Stored
+pub mod DiskRun

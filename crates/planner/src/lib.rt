@@ -3,6 +3,7 @@ mod worklist; // worklist.rt: the method's list as packed keys
 mod key; // key.rt: the two parts of a key
 mod window; // window.rt: the window of a disk
 mod store; // store.rt: the copies of one disk
+mod fill; // fill.rt: one disk filled, and all disks
 
 // What planning answers: a plan's numbers, or a refusal.
 pub enum Answer {
