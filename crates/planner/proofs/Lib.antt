@@ -6,3 +6,6 @@ pub mod Overwrite
 pub mod Copies
 pub mod Stored
 pub mod DiskRun
+pub mod LastDisk
+pub mod Written
+pub mod FilledTo

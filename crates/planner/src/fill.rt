@@ -6,13 +6,14 @@ use crate::window;
 use crate::worklist;
 ghost use mathlib.Core.Path.{_≡_};
 ghost use mathlib.Core.List.{map};
-ghost use Prim.Native.Nat.{_+_, _-_, _≤_};
+ghost use Prim.Native.Nat.{_+_, _-_, _*_, _≤_};
 ghost use lib.ListN.{length};
 ghost use Rattle.placement.specs.Items.{item, enter, total, filmOf, amountOf};
-ghost use Rattle.placement.specs.Rack.{disk};
+ghost use Rattle.placement.specs.Rack.{disk, rackOf};
 ghost use Rattle.placement.specs.Window.{window, outside};
 ghost use Rattle.placement.specs.Disk.{lastFilm, copiesOf, listAfter};
-ghost use Rattle.placement.specs.Tables.{padded, written};
+ghost use Rattle.placement.specs.Method.{placement, remaining, served as servedBy};
+ghost use Rattle.placement.specs.Tables.{padded, written, places};
 ghost use Rattle.planner.specs.Keys.{itemsOf};
 ghost use Rattle.planner.specs.Copies.{runOf};
 
@@ -80,4 +81,51 @@ pub(crate) fn fill_one(
         copies: size as u32,
         served: sum - over,
     }
+}
+
+// What filling all disks comes to: how many films are left in the list, and the viewers of all copies.
+pub(crate) struct Filled {
+    pub(crate) left: usize,
+    pub(crate) served: u64,
+}
+
+// Fills the disks in order. Each disk's copies are written from its first place on: the part of the copy table from there on
+// is lent to the step that fills the disk.
+pub(crate) fn fill_all(
+    films: &mut [u32],
+    viewers: &mut [u32],
+    counts: &mut [u32],
+    keys: &mut [u64],
+    n: usize,
+    disks: usize,
+    slots: usize,
+    load: u64,
+) -> Filled
+    requires { ⌜ (disks * slots ≤ length (now films)) × (disks * slots ≤ length (now viewers)) × (disks ≤ length (now counts)) × (n ≤ length (now keys)) ⌝ }
+    requires { ⌜ (disks ≤ 64) × (1 ≤ slots) × (slots ≤ 32) × (1 ≤ load) × (load ≤ 65535) ⌝ }
+    ensures { λ _. ⌜ now (films .exit) ≡ written (places filmOf (rackOf disks slots load) (placement (rackOf disks slots load) (itemsOf (now (keys .entry)) n))) (now (films .entry)) ⌝ }
+    ensures { λ _. ⌜ now (viewers .exit) ≡ written (places amountOf (rackOf disks slots load) (placement (rackOf disks slots load) (itemsOf (now (keys .entry)) n))) (now (viewers .entry)) ⌝ }
+    ensures { λ _. ⌜ now (counts .exit) ≡ written (map length (placement (rackOf disks slots load) (itemsOf (now (keys .entry)) n))) (now (counts .entry)) ⌝ }
+    ensures { λ r. ⌜ (itemsOf (now (keys .exit)) (r .left) ≡ remaining (rackOf disks slots load) (itemsOf (now (keys .entry)) n)) × (r .left ≤ n) ⌝ }
+    ensures { λ r. ⌜ r .served ≡ servedBy (placement (rackOf disks slots load) (itemsOf (now (keys .entry)) n)) ⌝ }
+{
+    let mut filled = 0;
+    let mut left = n;
+    let mut served = 0;
+    while filled < disks {
+        let first = filled * slots;
+        let step = fill_one(
+            &mut films[first..],
+            &mut viewers[first..],
+            keys,
+            left,
+            slots,
+            load,
+        );
+        counts[filled] = step.copies;
+        left = step.left;
+        served += step.served;
+        filled += 1;
+    }
+    Filled { left, served }
 }
