@@ -21,3 +21,8 @@ pub mod Demand3
 pub mod Each
 pub mod Verdicts
 pub mod Calls
+pub mod Entries
+pub mod ByFilm
+pub mod WindowSums
+pub mod WellFormed
+pub mod Bounds
