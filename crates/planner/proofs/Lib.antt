@@ -1,2 +1,4 @@
 pub mod Cuts
 pub mod Places
+pub mod Judging
+pub mod Seen

@@ -1,5 +1,6 @@
 // Planning: the bytes of a demand list to the lent tables, in steps of one module each.
-mod worklist; // worklist.rt: the method's list as packed keys
+mod records; // records.rt: the records in the bytes of a list, and their faults
+mod worklist; // worklist.rt: the list of the method as packed keys
 
 // What planning answers: a plan's numbers, or a refusal.
 pub enum Answer {
