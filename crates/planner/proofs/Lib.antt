@@ -2,3 +2,4 @@ pub mod Cuts
 pub mod Places
 pub mod Judging
 pub mod Seen
+pub mod Refusals
