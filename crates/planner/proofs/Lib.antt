@@ -3,3 +3,4 @@ pub mod Places
 pub mod Judging
 pub mod Seen
 pub mod Refusals
+pub mod Building

@@ -1,4 +1,5 @@
 // Planning: the bytes of a demand list to the lent tables, in steps of one module each.
+mod build; // build.rt: the list of the method from the records
 mod judge; // judge.rt: the refusals of planning
 mod records; // records.rt: the records in the bytes of a list, and their faults
 mod worklist; // worklist.rt: the list of the method as packed keys
