@@ -25,7 +25,7 @@ data Search (load : ℕ) (list : List Item) (w : ℕ → Window) (i n : ℕ) (ot
 
 module _ (load : ℕ) (list : List Item) where
   -- A search through two lists goes on with the second.
-  firstReaching-append :
+  pub firstReaching-append :
       (vs ws : List Window) (other : Window)
       → firstReaching load list (vs ++ ws) other ≡ firstReaching load list vs (firstReaching load list ws other)
   firstReaching-append [] ws other = refl
@@ -79,7 +79,7 @@ pub data Windowed (d : Disk) (list : List Item) : Window → Type 0 where
       → Windowed d list (lastWindow (d .slots) (length list))
 
 -- Taking as many as there are at the most.
-take-min : (k : ℕ) (xs : List Item) → take (min k (length xs)) xs ≡ take k xs
+pub take-min : (k : ℕ) (xs : List Item) → take (min k (length xs)) xs ≡ take k xs
 take-min zero xs = rw zero-min
 take-min (suc k) [] = rw min-zero
 take-min (suc k) (x ∷ xs) = rw suc-min-suc (ap (λ (r : List Item). x ∷ r) (take-min k xs))

@@ -4,3 +4,7 @@ pub mod Judging
 pub mod Seen
 pub mod Refusals
 pub mod Building
+pub mod Runs
+pub mod Search
+pub mod Overwrite
+pub mod Copies

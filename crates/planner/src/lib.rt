@@ -1,7 +1,10 @@
 // Planning: the bytes of a demand list to the lent tables, in steps of one module each.
 mod build; // build.rt: the list of the method from the records
 mod judge; // judge.rt: the refusals of planning
+mod key; // key.rt: the two parts of a key
 mod records; // records.rt: the records in the bytes of a list, and their faults
+mod store; // store.rt: the copies of one disk
+mod window; // window.rt: the window of a disk
 mod worklist; // worklist.rt: the list of the method as packed keys
 
 // What planning answers: a plan's numbers, or a refusal.
