@@ -8,3 +8,4 @@ pub mod Runs
 pub mod Search
 pub mod Overwrite
 pub mod Copies
+pub mod LeftFilms

@@ -2,6 +2,7 @@
 mod build; // build.rt: the list of the method from the records
 mod judge; // judge.rt: the refusals of planning
 mod key; // key.rt: the two parts of a key
+mod left; // left.rt: the left table
 mod records; // records.rt: the records in the bytes of a list, and their faults
 mod store; // store.rt: the copies of one disk
 mod window; // window.rt: the window of a disk
