@@ -8,6 +8,7 @@ use native.Mathlib.Numerals.{add-one}
 use native.Mathlib.Omega.{arith}
 use borrow.Author.Needs.{needs}
 use borrow.Author.Tests.{le-leb, lt-leb}
+use lib.Dec.{leb}
 use lib.ListN.{length, take, getD}
 use Rattle.placement.specs.Items.{total}
 use Rattle.placement.specs.Window.{Window, window, series, openings, firstReaching}

@@ -8,7 +8,7 @@ use native.Mathlib.Omega.{arith}
 use borrow.Author.Needs.{needs}
 use lib.ListN.{length, take, drop, getD}
 use Rattle.placement.specs.Items.{total}
-use Rattle.placement.specs.Window.{window, series, slidings, lastWindow, firstReaching}
+use Rattle.placement.specs.Window.{Window, window, within, series, slidings, lastWindow, firstReaching}
 use Rattle.planner.specs.Keys.{itemsOf}
 use Rattle.planner.proofs.Runs.{run-moves, run-first, run-whole}
 use Rattle.planner.proofs.Search.{search-passes, search-finds}
