@@ -1,5 +1,9 @@
 pub mod Cuts
 pub mod Places
+pub mod Judging
+pub mod Seen
+pub mod Refusals
+pub mod Building
 pub mod Runs
 pub mod Search
 pub mod Overwrite
@@ -9,3 +13,4 @@ pub mod DiskRun
 pub mod LastDisk
 pub mod Written
 pub mod FilledTo
+pub mod LeftFilms
