@@ -6,6 +6,7 @@ pub mod Method
 pub mod Sharing
 pub mod Records
 pub mod Tables
+pub mod Held
 pub mod Planning
 pub mod Promise
 pub mod Cases
