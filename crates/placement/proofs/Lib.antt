@@ -18,3 +18,6 @@ pub mod Listed
 pub mod ClosedSet
 pub mod BestSharing
 pub mod Demand3
+pub mod Each
+pub mod Verdicts
+pub mod Calls
