@@ -1,5 +1,5 @@
 -- Sums of windows: one film more adds at most the largest amount, so no window that is summed passes the load less 1 plus that.
-use mathlib.Core.Path.{_≡_, refl, sym, ap, subst}
+use mathlib.Core.Path.{_≡_, refl, subst}
 use mathlib.Core.Bool.{Bool, true, false, cond}
 use mathlib.Core.List.{List, [], _∷_, _++_}
 use Prim.Native.Nat.{ℕ, zero, suc, _+_, _-_, _≤_, _<_, min}
@@ -11,6 +11,7 @@ use Rattle.placement.specs.Items.{Item, total}
 use Rattle.placement.specs.Rack.{Disk}
 use Rattle.placement.specs.Window.{Window, window, within, series, openings, slidings, windowOf}
 use Rattle.placement.specs.WellFormed.{Each, Entry, summed}
+use Rattle.placement.proofs.Each.{each-drop}
 use Rattle.placement.proofs.Windows.{Windowed, opening, sliding, last, window-cases}
 
 -- A run with one film more.
@@ -20,6 +21,12 @@ total-take-suc most zero [] entries = omega arith
 total-take-suc most zero (x ∷ xs) entries = omega (arith, entries .0 .amountMost)
 total-take-suc most (suc m) [] entries = omega arith
 total-take-suc most (suc m) (x ∷ xs) entries = omega (arith, total-take-suc most m xs (entries .1))
+
+-- A run inside the list with one film more, as a sum that rolls on has it before its first film is taken off.
+pub total-rolling :
+    (most k s : ℕ) (xs : List Item) → Each (Entry most) xs
+    → total (take (suc k) (drop s xs)) ≤ total (take k (drop s xs)) + most
+total-rolling most k s xs entries = total-take-suc most k (drop s xs) (each-drop (Entry most) s xs entries)
 
 -- A run that starts one film later.
 pub total-take-next :
