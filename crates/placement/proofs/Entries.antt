@@ -122,10 +122,12 @@ module _ (d : Disk) (list : List Item) (someSlots : 1 ≤ d .slots) (someLoad : 
         reaching h =
             subst (λ (r : List Item). Each (Entry (d .load)) r) (sym (stored-reaching (d .load) films h))
             (each-append (Entry (d .load)) (allButLast films) (item (lastFilm films .film) lastViewers ∷ [])
-            (entries-total most (d .load) (allButLast films) (omega (arith, last-needed h)) (each-allButLast (Entry most) films films-entries))
-            (entry-changed most (d .load) (lastFilm films) lastViewers
-            (each-last (Entry most) films (some-film films (omega arith)) films-entries) (lastViewers-bounds h .0)
-            (lastViewers-bounds h .1), tt))
+            (entries-total most (d .load) (allButLast films) (omega (arith, last-needed h)) (each-allButLast (Entry most) films films-entries)) (
+              entry-changed most (d .load) (lastFilm films) lastViewers
+                  (each-last (Entry most) films (some-film films (omega arith)) films-entries) (lastViewers-bounds h .0)
+                  (lastViewers-bounds h .1),
+              tt,
+            ))
 
     -- The next list holds entries with numbers in the same range.
     pub after-entries : Each (Entry most) (listAfter d list)

@@ -73,13 +73,13 @@ plan-wellFormed disks records usable accepted = record {
       (remaining-distinct disks (listOf records) usable distinct);
   leftEntries = each-byFilm (Entry mostDemand) (remaining disks (listOf records)) left;
   leftCount = omega (
-        arith,
-        byFilm-length (remaining disks (listOf records)),
-        remaining-count disks (listOf records) usable,
-        length-sum (listOf records),
-        length-sum records,
-        sumBy-listOf-le one records,
-      );
+    arith,
+    byFilm-length (remaining disks (listOf records)),
+    remaining-count disks (listOf records) usable,
+    length-sum (listOf records),
+    length-sum records,
+    sumBy-listOf-le one records,
+  );
 }
   where
     entries : Each (Entry mostDemand) (listOf records)
