@@ -1,5 +1,5 @@
 -- Laws of properties that every member of a list has: append, take and drop, insertion, the films in and outside a window.
-use mathlib.Core.Path.{_≡_, refl, sym, subst}
+use mathlib.Core.Path.{_≡_, refl}
 use mathlib.Core.Bool.{Bool, true, false, cond}
 use mathlib.Core.List.{List, [], _∷_, _++_}
 use Prim.Native.Nat.{ℕ, zero, suc, _+_, _-_, _≤_, _<_}
@@ -7,11 +7,10 @@ use native.Mathlib.Omega.{arith}
 use borrow.Author.Tests.{leb-true}
 use lib.Dec.{leb}
 use lib.ListN.{length, take, drop, getD}
-use Rattle.placement.specs.Items.{Item, item, total, insertBy, enter, enterAll, listOf, before, byFilm, beforeByFilm}
+use Rattle.placement.specs.Items.{Item, item, insertBy, enter, enterAll, listOf, before, byFilm, beforeByFilm}
 use Rattle.placement.specs.Window.{Window, within, outside}
 use Rattle.placement.specs.Disk.{allButLast, lastFilm}
 use Rattle.placement.specs.WellFormed.{Each}
-use Rattle.placement.proofs.Tests.{by-test}
 
 module _ {A : Type 0} (P : A → Type 0) where
   pub each-append : (xs ys : List A) → Each P xs → Each P ys → Each P (xs ++ ys)

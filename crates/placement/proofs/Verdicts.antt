@@ -79,7 +79,8 @@ records-demanded earlier position [] e = tt
 records-demanded earlier position (x ∷ xs) e =
     (judged earlier position x xs e .demanded, records-demanded (x ∷ earlier) (suc position) xs (judged earlier position x xs e .later))
 
-oneIf-le : (f : ℕ) (x : Item) → oneIf f x ≤ 1
+-- An item counts at most once.
+pub oneIf-le : (f : ℕ) (x : Item) → oneIf f x ≤ 1
 oneIf-le f x = go (eqb f (x .film))
   where
     go : (b : Bool) → cond b 1 0 ≤ 1
@@ -87,7 +88,7 @@ oneIf-le f x = go (eqb f (x .film))
     go false = omega arith
 
 -- A new film keeps films distinct.
-distinct-new : (x : Item) (xs : List Item) → occurrences (x .film) xs ≡ 0 → Distinct xs → Distinct (x ∷ xs)
+pub distinct-new : (x : Item) (xs : List Item) → occurrences (x .film) xs ≡ 0 → Distinct xs → Distinct (x ∷ xs)
 distinct-new x xs new distinct f =
     by-order 0 (oneIf f x)
     (λ here. omega (arith, oneIf-le f x, subst (λ (g : ℕ). occurrences g xs ≡ 0) (sym (same-film f x here)) new))

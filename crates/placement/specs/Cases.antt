@@ -1,8 +1,8 @@
 -- Cases A to I of document 01 and its numeric edges, as one table: what is asked, and what the answer and the lent tables then are.
 use Prim.Native.Nat.{ℕ, _+_, _*_, _/_, _%_}
-use mathlib.Core.List.{List, [], _∷_, _++_, map}
+use mathlib.Core.List.{List, [], _∷_, _++_}
 use lib.ListN.{length, replicate}
-use Rattle.placement.specs.Items.{Item, item, filmOf, amountOf}
+use Rattle.placement.specs.Items.{Item, item}
 use Rattle.placement.specs.Tables.{Tables}
 use Rattle.placement.specs.Planning.{Call, Numbers, planning, tablesAfter}
 

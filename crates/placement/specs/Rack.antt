@@ -1,5 +1,5 @@
 -- Disks and racks: what a disk is, the list of disks that a rack stands for, and the accepted ranges.
-use Prim.Native.Nat.{ℕ, zero, suc, _+_}
+use Prim.Native.Nat.{ℕ, _+_}
 use mathlib.Core.Bool.{Bool, _&&_}
 use mathlib.Core.List.{List, [], _∷_}
 use lib.Dec.{leb}
