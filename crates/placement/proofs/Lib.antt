@@ -36,3 +36,5 @@ pub mod ByFilm
 pub mod WindowSums
 pub mod WellFormed
 pub mod Bounds
+pub mod ReadBack
+pub mod PlanPromise
