@@ -31,6 +31,7 @@ pub mod Demand3
 pub mod Each
 pub mod Verdicts
 pub mod Calls
+pub mod LastFilm
 pub mod Entries
 pub mod ByFilm
 pub mod WindowSums

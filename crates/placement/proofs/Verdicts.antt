@@ -52,6 +52,7 @@ module _ (earlier : List Item) (position : ℕ) (x : Item) (xs : List Item) wher
   abbrev fromDemand : Verdict
   fromDemand = unless (leb (x .amount) mostDemand) (refused 5 position) fromSeen
 
+  -- A record that leads to a plan has no fault.
   judged : judgeRecords earlier position (x ∷ xs) ≡ planned → Judged earlier position x xs
   judged e = record {
     demanded = record {
@@ -74,6 +75,7 @@ module _ (earlier : List Item) (position : ℕ) (x : Item) (xs : List Item) wher
           unless-planned (eqb (occurrences (x .film) earlier) 0) 6 position (judgeRecords (x ∷ earlier) (suc position) xs)
           (second .1)
 
+-- Records that lead to a plan are in range.
 records-demanded : (earlier : List Item) (position : ℕ) (xs : List Item) → judgeRecords earlier position xs ≡ planned → Each Demanded xs
 records-demanded earlier position [] e = tt
 records-demanded earlier position (x ∷ xs) e =
@@ -94,6 +96,7 @@ distinct-new x xs new distinct f =
     (λ here. omega (arith, oneIf-le f x, subst (λ (g : ℕ). occurrences g xs ≡ 0) (sym (same-film f x here)) new))
     (λ none. omega (arith, distinct f))
 
+-- No film of them stands in an earlier one.
 records-distinct :
     (earlier : List Item) (position : ℕ) (xs : List Item) → judgeRecords earlier position xs ≡ planned → Distinct earlier
     → (f : ℕ) → occurrences f earlier + occurrences f xs ≤ 1

@@ -44,18 +44,20 @@ placement-wellFormed (d ∷ ds) list usable entries distinct = (
       (after-distinct d list (usable .0) (usable .1) distinct),
 )
 
--- What is left are distinct entries, no more than the list has.
+-- What is left are entries.
 pub remaining-entries :
     (disks : List Disk) (list : List Item) → Usable disks → Each (Entry mostDemand) list → Each (Entry mostDemand) (remaining disks list)
 remaining-entries [] list usable entries = entries
 remaining-entries (d ∷ ds) list usable entries =
     remaining-entries ds (listAfter d list) (usable .2) (after-entries d list (usable .0) (usable .1) mostDemand entries)
 
+-- Their films are distinct.
 pub remaining-distinct : (disks : List Disk) (list : List Item) → Usable disks → Distinct list → Distinct (remaining disks list)
 remaining-distinct [] list usable distinct = distinct
 remaining-distinct (d ∷ ds) list usable distinct =
     remaining-distinct ds (listAfter d list) (usable .2) (after-distinct d list (usable .0) (usable .1) distinct)
 
+-- They are no more than the list has.
 pub remaining-count : (disks : List Disk) (list : List Item) → Usable disks → length (remaining disks list) ≤ length list
 remaining-count [] list usable = omega arith
 remaining-count (d ∷ ds) list usable =
