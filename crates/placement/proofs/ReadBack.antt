@@ -17,7 +17,7 @@ entries-map [] = refl
 entries-map (x ∷ xs) = ap (λ (r : List Item). x ∷ r) (entries-map xs)
 
 -- The first places of a padded part are the part.
-part-front :
+pub part-front :
     (part : Item → ℕ) (n : ℕ) (xs : List Item) (rest : List ℕ)
     → take (length xs) (padded n (map part xs) ++ rest) ≡ map part xs
 part-front part n xs rest =
@@ -33,7 +33,7 @@ padded-length n xs fits =
     omega (arith, length-append xs (replicate (n - length xs) 0), length-replicate {A = ℕ} (n - length xs) 0)
 
 -- Behind a disk's places come those of the next disk.
-part-behind :
+pub part-behind :
     (part : Item → ℕ) (n : ℕ) (xs : List Item) (rest : List ℕ) → length xs ≤ n
     → drop n (padded n (map part xs) ++ rest) ≡ rest
 part-behind part n xs rest fits =
