@@ -1,24 +1,23 @@
 -- The plan of a call that planning does not refuse is well formed in the sense of the text.
-use mathlib.Core.Path.{_≡_, refl, sym, ap, ap₂, subst, _∙_}
-use mathlib.Core.Bool.{Bool, true, false, _&&_}
-use mathlib.Core.List.{List, [], _∷_, _++_, map, append-assoc}
-use Prim.Native.Nat.{ℕ, zero, suc, _+_, _-_, _≤_, _<_}
+use mathlib.Core.Path.{_≡_, refl, ap₂, _∙_}
+use mathlib.Core.Bool.{Bool, true, _&&_}
+use mathlib.Core.List.{List, [], _∷_}
+use Prim.Native.Nat.{ℕ, _-_, _≤_}
 use native.Mathlib.Omega.{arith}
 use borrow.Author.Tests.{le-leb, lt-ltb, eq-eqb}
-use lib.Dec.{leb, ltb, eqb}
 use lib.ListN.{length, length-replicate}
 use Rattle.placement.specs.Items.{Item, total, occurrences}
-use Rattle.placement.specs.Rack.{Disk, disk, rackOf, rackAccepted, inRange, mostDisks, mostSlots, mostLoad, mostFilm, mostDemand}
-use Rattle.placement.specs.WellFormed.{Each, Entry, DiskWellFormed, DisksWellFormed, FilmsAbove, PlanWellFormed, CallInRange, CallWellFormed}
+use Rattle.placement.specs.Rack.{disk, rackAccepted, inRange, mostDisks, mostSlots, mostLoad, mostFilm, mostDemand}
+use Rattle.placement.specs.WellFormed.{Each, Entry, DiskWellFormed, FilmsAbove, CallInRange, CallWellFormed}
 use Rattle.placement.specs.Planning.{Call, copiesIn, leftIn}
 use Rattle.placement.specs.Promise.{Distinct}
 use Rattle.placement.proofs.Films.{own-film}
 use Rattle.placement.proofs.Bounds.{rack-copies}
 use Rattle.plan_text.specs.Planned.{planIn}
-use Rattle.plan_text.specs.Plan.{Plan, every, distinctFilms, copyAccepted, diskAccepted, disksAccepted, ascendingAbove, leftFilmAccepted, leftAccepted, mostLeft, wellFormed}
+use Rattle.plan_text.specs.Plan.{every, distinctFilms, copyAccepted, diskAccepted, disksAccepted, ascendingAbove, leftFilmAccepted, leftAccepted, mostLeft, wellFormed}
 
 -- Two tests that hold, hold together.
-both : {a b : Bool} → a ≡ true → b ≡ true → (a && b) ≡ true
+pub both : {a b : Bool} → a ≡ true → b ≡ true → (a && b) ≡ true
 both p q = ap₂ _&&_ p q
 
 -- A number from 1 to a limit is in range.
