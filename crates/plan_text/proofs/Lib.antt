@@ -1,1 +1,11 @@
 pub mod ExamplesHold
+pub mod Choices
+pub mod Decimals
+pub mod Pieces
+pub mod Numbers
+pub mod Pairs
+pub mod Upto
+pub mod Grammar
+pub mod LineThen
+pub mod OneLine
+pub mod Bodies
