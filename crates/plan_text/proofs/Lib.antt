@@ -9,3 +9,6 @@ pub mod Grammar
 pub mod LineThen
 pub mod OneLine
 pub mod Bodies
+pub mod Limits
+pub mod PlanGrammar
+pub mod Laws
