@@ -12,3 +12,5 @@ pub mod Bodies
 pub mod Limits
 pub mod PlanGrammar
 pub mod Laws
+pub mod Lengths
+pub mod LongestText
