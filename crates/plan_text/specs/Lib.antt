@@ -12,3 +12,4 @@ pub mod WriteCall
 pub mod Examples
 pub mod CallExamples
 pub mod Planned
+pub mod Refusal
