@@ -14,6 +14,7 @@ use Rattle.placement.specs.Tables.{Tables}
 use Rattle.placement.specs.Planning.{Call, verdict, recordCount, recordsIn, roomFor}
 use Rattle.plan_text.specs.Refusal.{refusalText}
 use Rattle.plan_output.specs.Input.{headBytes, callIn, mostKept, kept}
+use Rattle.plan_output.specs.KeepPromise.{KeepPromise}
 use Rattle.plan_output.specs.Output.{ownTables, printed, outputOf}
 use Rattle.placement.proofs.Tests.{by-test, by-order}
 
@@ -104,10 +105,10 @@ pub kept-output : (input : List ℕ) → outputOf (take (kept (length input)) in
 kept-output input =
     by-test (leb (length input) mostKept)
     (λ short. ap (λ (b : Bool). outputOf (take (cond b (length input) (8212 + (length input - headBytes) % 8)) input)) short
-        ∙ ap outputOf (take-length input))
+    ∙ ap outputOf (take-length input))
     (λ long. same-output input (leb-false (length input) mostKept long))
 
-kept-short : (n : ℕ) → n ≤ mostKept → kept n ≡ n
+pub kept-short : (n : ℕ) → n ≤ mostKept → kept n ≡ n
 kept-short n short = ap (λ (b : Bool). cond b n (8212 + (n - headBytes) % 8)) (le-leb n mostKept short)
 
 -- The kept length of what is kept and more bytes is that of the whole and those bytes.
@@ -115,8 +116,8 @@ pub kept-more : (n more : ℕ) → kept (kept n + more) ≡ kept (n + more)
 kept-more n more =
     by-order mostKept n
     (λ long. by-order mostKept (kept n + more)
-        (λ over. omega (arith, kept-long n long, kept-long (kept n + more) over, kept-long (n + more) (omega arith)))
-        (λ under. omega (arith, kept-long n long, kept-short (kept n + more) under, kept-long (n + more) (omega arith))))
+    (λ over. omega (arith, kept-long n long, kept-long (kept n + more) over, kept-long (n + more) (omega arith)))
+    (λ under. omega (arith, kept-long n long, kept-short (kept n + more) under, kept-long (n + more) (omega arith))))
     (λ short. ap (λ (m : ℕ). kept (m + more)) (kept-short n short))
 
 -- No more is kept than there is, and never more than the most.
@@ -125,3 +126,16 @@ kept-le n = by-order mostKept n (λ long. omega (arith, kept-long n long)) (λ s
 
 pub kept-most : (n : ℕ) → kept n ≤ mostKept
 kept-most n = by-order mostKept n (λ long. omega (arith, kept-long n long)) (λ short. omega (arith, kept-short n short))
+
+-- The kept length of two parts that are long together, from their odd bytes.
+pub kept-parts : (a b : ℕ) → mostKept < a + b → 8212 + (a % 8 + b % 8 + 4) % 8 ≡ kept (a + b)
+kept-parts a b over = omega (arith, kept-long (a + b) over)
+
+-- The kept length keeps its whole promise.
+pub keep-promise : (before more answer : ℕ) → answer ≡ kept (before + more) → KeepPromise before more answer
+keep-promise before more answer e = record {
+  number = e;
+  most = omega (arith, e, kept-most (before + more));
+  stands = λ input whole. ap (λ (n : ℕ). outputOf (take n input)) (e ∙ ap kept (sym whole)) ∙ kept-output input;
+  counted = λ n part. e ∙ ap (λ (m : ℕ). kept (m + more)) part ∙ kept-more n more;
+}
