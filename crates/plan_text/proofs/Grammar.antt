@@ -55,6 +55,14 @@ pub record Grammar {B : Type 0} (ok : B → Bool) (text : B → List ℕ) (read 
   pub begun : (t : List ℕ) (n : ℕ) → read t ≡ refusedAfter n → (b : B) × (ok b ≡ true) × (upto n (text b) ≡ upto n t)
   pub ended : (t : List ℕ) (n : ℕ) → read t ≡ refusedAfter n → (b : B) → ok b ≡ true → upto (suc n) (text b) ≡ upto (suc n) t → ⊥
 
+-- The whole is a line's value and the rest's, its text is the line and the rest's text, and some line passes.
+pub record Joins {A B C : Type 0} (test : A → Bool) (textA : A → List ℕ) (okB : A → B → Bool) (textB : A → B → List ℕ)
+    (okC : C → Bool) (textC : C → List ℕ) (join : A → B → C) : Type 0 where
+  pub first : (a : A) × (test a ≡ true)
+  pub both : (a : A) (b : B) → test a ≡ true → okB a b ≡ true → okC (join a b) ≡ true
+  pub split : (c : C) → okC c ≡ true → (a : A) × (b : B) × (test a ≡ true) × (okB a b ≡ true) × (join a b ≡ c)
+  pub text : (a : A) (b : B) → test a ≡ true → textC (join a b) ≡ textA a ++ (lineFeed ∷ textB a b)
+
 abbrev lineCount : {B : Type 0} → Reading B → ℕ
 lineCount (whole b) = zero
 lineCount (refusedAfter n) = n

@@ -1,3 +1,4 @@
+pub mod NumbersHold
 pub mod ExamplesHold
 pub mod Planned
 pub mod PlannedTables
@@ -12,7 +13,10 @@ pub mod LineThen
 pub mod OneLine
 pub mod Bodies
 pub mod Limits
+pub mod LastLines
+pub mod Tails
 pub mod PlanGrammar
 pub mod Laws
 pub mod Lengths
 pub mod LongestText
+pub mod LongestHolds

@@ -13,3 +13,4 @@ pub mod Examples
 pub mod CallExamples
 pub mod Planned
 pub mod Refusal
+pub mod Longest
