@@ -1,12 +1,12 @@
 -- One disk's step on a list of entries: its copies are well formed, and the next list holds entries again.
-use mathlib.Core.Path.{_≡_, refl, sym, ap, _∙_, subst}
-use mathlib.Core.Bool.{Bool, true, false, cond}
-use mathlib.Core.List.{List, [], _∷_, _++_, map}
-use Prim.Native.Nat.{ℕ, _+_, _-_, _≤_, _<_}
+use mathlib.Core.Path.{sym, ap, _∙_, subst}
+use mathlib.Core.Bool.{cond}
+use mathlib.Core.List.{List, [], _∷_}
+use Prim.Native.Nat.{ℕ, _-_, _≤_, _<_}
 use native.Mathlib.Omega.{arith}
 use lib.Dec.{leb}
 use lib.ListN.{length, length-map}
-use Rattle.placement.specs.Items.{Item, item, total, amountOf, filmOf, oneIf}
+use Rattle.placement.specs.Items.{Item, item, total, filmOf, oneIf}
 use Rattle.placement.specs.Rack.{Disk}
 use Rattle.placement.specs.Window.{within, outside, windowOf}
 use Rattle.placement.specs.Disk.{allButLast, lastFilm, stored, remainder, copiesOf, listAfter}
@@ -14,10 +14,11 @@ use Rattle.placement.specs.Promise.{Distinct}
 use Rattle.placement.specs.WellFormed.{Each, Entry, DiskWellFormed}
 use Rattle.placement.proofs.Tests.{by-order, chosen, passed}
 use Rattle.placement.proofs.Sums.{length-sum, one}
-use Rattle.placement.proofs.Windows.{window-cases, window-size, window-last-needed}
-use Rattle.placement.proofs.Disks.{sumBy-last, some-film, stored-below, stored-reaching, stored-films, copies-load, after-sum, before-sum}
+use Rattle.placement.proofs.Windows.{window-cases, window-size}
+use Rattle.placement.proofs.Disks.{some-film, stored-below, stored-reaching, stored-films, copies-load, after-sum, before-sum}
 use Rattle.placement.proofs.Steps.{films-length}
 use Rattle.placement.proofs.Films.{occurrences-same}
+use Rattle.placement.proofs.LastFilm.{lastViewers, last-needed, lastViewers-bounds, rest-most}
 use Rattle.placement.proofs.Each.{each-append, each-within, each-outside, each-allButLast, each-last, each-enter}
 
 -- Entries of a list that sums to at most n are entries with numbers up to n.
@@ -39,32 +40,12 @@ entry-changed most n x a entry some few =
     record { filmLeast = entry .filmLeast; filmMost = entry .filmMost; amountLeast = some; amountMost = few }
 
 module _ (d : Disk) (list : List Item) (someSlots : 1 ≤ d .slots) (someLoad : 1 ≤ d .load) where
+  -- The films of the disk's window, and what remains of its last one.
   abbrev films : List Item
   films = within (windowOf d list) list
 
   abbrev rest : Item
   rest = remainder (d .load) films
-
-  -- The viewers that the last film of a window gets where the window reaches the load.
-  abbrev pub lastViewers : ℕ
-  lastViewers = d .load - total (allButLast films)
-
-  last-needed : d .load ≤ total films → total (allButLast films) < d .load
-  last-needed h = window-last-needed someSlots (window-cases d list someLoad) h
-
-  -- They are at least 1 and at most the load.
-  pub lastViewers-bounds : d .load ≤ total films → (1 ≤ lastViewers) × (lastViewers ≤ d .load)
-  lastViewers-bounds h = (omega (arith, last-needed h), omega arith)
-
-  -- They and the remainder make up the amount of the last film.
-  pub lastViewers-rest : d .load ≤ total films → lastViewers + rest .amount ≡ lastFilm films .amount
-  lastViewers-rest h =
-      omega (arith, last-needed h, sumBy-last amountOf films (some-film films (omega arith)))
-
-  -- The remainder is at most the amount of the last film.
-  pub rest-most : rest .amount ≤ lastFilm films .amount
-  rest-most =
-      by-order (total films) (d .load) (λ h. omega arith) (λ h. omega (arith, lastViewers-rest h))
 
   -- A disk has at most as many copies as slots.
   pub copies-slots : length (copiesOf d list) ≤ d .slots
@@ -106,6 +87,7 @@ module _ (d : Disk) (list : List Item) (someSlots : 1 ≤ d .slots) (someLoad : 
       leaves h = omega (arith, passed {A = ℕ} (rest .amount) 1 0 (omega arith))
 
   module _ (most : ℕ) (entries : Each (Entry most) list) where
+    -- The films of the window are entries.
     films-entries : Each (Entry most) films
     films-entries = each-within (Entry most) (windowOf d list) list entries
 
@@ -121,11 +103,11 @@ module _ (d : Disk) (list : List Item) (someSlots : 1 ≤ d .slots) (someLoad : 
         reaching : d .load ≤ total films → Each (Entry (d .load)) (stored (d .load) films)
         reaching h =
             subst (λ (r : List Item). Each (Entry (d .load)) r) (sym (stored-reaching (d .load) films h))
-            (each-append (Entry (d .load)) (allButLast films) (item (lastFilm films .film) lastViewers ∷ [])
-            (entries-total most (d .load) (allButLast films) (omega (arith, last-needed h)) (each-allButLast (Entry most) films films-entries)) (
-              entry-changed most (d .load) (lastFilm films) lastViewers
-                  (each-last (Entry most) films (some-film films (omega arith)) films-entries) (lastViewers-bounds h .0)
-                  (lastViewers-bounds h .1),
+            (each-append (Entry (d .load)) (allButLast films) (item (lastFilm films .film) (lastViewers d list someSlots someLoad) ∷ [])
+            (entries-total most (d .load) (allButLast films) (omega (arith, last-needed d list someSlots someLoad h)) (each-allButLast (Entry most) films films-entries)) (
+              entry-changed most (d .load) (lastFilm films) (lastViewers d list someSlots someLoad)
+                  (each-last (Entry most) films (some-film films (omega arith)) films-entries) (lastViewers-bounds d list someSlots someLoad h .0)
+                  (lastViewers-bounds d list someSlots someLoad h .1),
               tt,
             ))
 
@@ -138,7 +120,7 @@ module _ (d : Disk) (list : List Item) (someSlots : 1 ≤ d .slots) (someLoad : 
         returning : 1 ≤ rest .amount → Entry most rest
         returning h =
             let last : Entry most (lastFilm films) = each-last (Entry most) films (some-film films (omega arith)) films-entries in
-            entry-changed most most (lastFilm films) (rest .amount) last h (omega (arith, rest-most, last .amountMost))
+            entry-changed most most (lastFilm films) (rest .amount) last h (omega (arith, rest-most d list someSlots someLoad, last .amountMost))
 
     -- A disk's copies are well formed.
     pub copies-wellFormed : Distinct list → DiskWellFormed d (copiesOf d list)

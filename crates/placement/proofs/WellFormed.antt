@@ -1,30 +1,21 @@
 -- The plan of accepted records is well formed and its numbers are bounded: for every list of usable disks, and for 01's rack.
-use mathlib.Core.Path.{_≡_, refl, sym, ap, _∙_, subst}
+use mathlib.Core.Path.{_≡_, refl, ap}
 use mathlib.Core.List.{List, [], _∷_}
-use Prim.Native.Nat.{ℕ, zero, suc, _+_, _*_, _≤_}
-use native.Mathlib.Nat.{mul-suc, mul-le-mul-left, mul-le-mul-right}
+use Prim.Native.Nat.{suc, _≤_}
 use native.Mathlib.Omega.{arith}
-use lib.ListN.{length, replicate}
+use lib.ListN.{length}
 use Rattle.placement.specs.Items.{Item, listOf}
-use Rattle.placement.specs.Rack.{Disk, disk, rackOf, allLoads, mostDemand}
+use Rattle.placement.specs.Rack.{Disk, mostDemand}
 use Rattle.placement.specs.Disk.{listAfter}
-use Rattle.placement.specs.Method.{placement, remaining, leftOf, served, unserved}
-use Rattle.placement.specs.Records.{planned}
-use Rattle.placement.specs.Tables.{Tables}
-use Rattle.placement.specs.Planning.{Call, recordCount, recordsIn, disksIn, copiesIn, verdict}
-use Rattle.placement.specs.Sharing.{WithinLoads}
+use Rattle.placement.specs.Method.{placement, remaining, leftOf}
 use Rattle.placement.specs.Promise.{Distinct}
-use Rattle.placement.specs.WellFormed.{Each, Demanded, Accepted, Entry, DisksWellFormed, FilmsAbove, PlanWellFormed, WindowsBounded, Bounded, CallInRange, CallWellFormed}
+use Rattle.placement.specs.WellFormed.{Each, Demanded, Accepted, Entry, DisksWellFormed, PlanWellFormed}
 use Rattle.placement.proofs.Sums.{length-sum, one}
 use Rattle.placement.proofs.Films.{Usable, after-distinct}
 use Rattle.placement.proofs.Listed.{listOf-distinct, sumBy-listOf-le}
-use Rattle.placement.proofs.BestSharing.{plan-total, plan-loads}
-use Rattle.placement.proofs.Demand3.{rack-loads}
 use Rattle.placement.proofs.Each.{each-map, each-listOf, each-byFilm}
-use Rattle.placement.proofs.Calls.{recordsIn-length, planned-accepted, planned-inRange}
 use Rattle.placement.proofs.Entries.{after-count, after-entries, copies-wellFormed}
 use Rattle.placement.proofs.ByFilm.{byFilm-length, byFilm-above}
-use Rattle.placement.proofs.WindowSums.{windows-summed, window-summed}
 
 -- A record with a demand of at least 1 is an entry.
 demanded-entry : (x : Item) → Demanded x → 1 ≤ x .amount → Entry mostDemand x
@@ -53,18 +44,20 @@ placement-wellFormed (d ∷ ds) list usable entries distinct = (
       (after-distinct d list (usable .0) (usable .1) distinct),
 )
 
--- What is left are distinct entries, no more than the list has.
+-- What is left are entries.
 pub remaining-entries :
     (disks : List Disk) (list : List Item) → Usable disks → Each (Entry mostDemand) list → Each (Entry mostDemand) (remaining disks list)
 remaining-entries [] list usable entries = entries
 remaining-entries (d ∷ ds) list usable entries =
     remaining-entries ds (listAfter d list) (usable .2) (after-entries d list (usable .0) (usable .1) mostDemand entries)
 
+-- Their films are distinct.
 pub remaining-distinct : (disks : List Disk) (list : List Item) → Usable disks → Distinct list → Distinct (remaining disks list)
 remaining-distinct [] list usable distinct = distinct
 remaining-distinct (d ∷ ds) list usable distinct =
     remaining-distinct ds (listAfter d list) (usable .2) (after-distinct d list (usable .0) (usable .1) distinct)
 
+-- They are no more than the list has.
 pub remaining-count : (disks : List Disk) (list : List Item) → Usable disks → length (remaining disks list) ≤ length list
 remaining-count [] list usable = omega arith
 remaining-count (d ∷ ds) list usable =

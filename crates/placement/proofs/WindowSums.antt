@@ -1,5 +1,5 @@
 -- Sums of windows: one film more adds at most the largest amount, so no window that is summed passes the load less 1 plus that.
-use mathlib.Core.Path.{_≡_, refl, sym, ap, subst}
+use mathlib.Core.Path.{_≡_, refl, subst}
 use mathlib.Core.Bool.{Bool, true, false, cond}
 use mathlib.Core.List.{List, [], _∷_, _++_}
 use Prim.Native.Nat.{ℕ, zero, suc, _+_, _-_, _≤_, _<_, min}
@@ -11,6 +11,7 @@ use Rattle.placement.specs.Items.{Item, total}
 use Rattle.placement.specs.Rack.{Disk}
 use Rattle.placement.specs.Window.{Window, window, within, series, openings, slidings, windowOf}
 use Rattle.placement.specs.WellFormed.{Each, Entry, summed}
+use Rattle.placement.proofs.Each.{each-drop}
 use Rattle.placement.proofs.Windows.{Windowed, opening, sliding, last, window-cases}
 
 -- A run with one film more.
@@ -20,6 +21,12 @@ total-take-suc most zero [] entries = omega arith
 total-take-suc most zero (x ∷ xs) entries = omega (arith, entries .0 .amountMost)
 total-take-suc most (suc m) [] entries = omega arith
 total-take-suc most (suc m) (x ∷ xs) entries = omega (arith, total-take-suc most m xs (entries .1))
+
+-- A run inside the list with one film more, as a sum that rolls on has it before its first film is taken off.
+pub total-rolling :
+    (most k s : ℕ) (xs : List Item) → Each (Entry most) xs
+    → total (take (suc k) (drop s xs)) ≤ total (take k (drop s xs)) + most
+total-rolling most k s xs entries = total-take-suc most k (drop s xs) (each-drop (Entry most) s xs entries)
 
 -- A run that starts one film later.
 pub total-take-next :
@@ -39,6 +46,7 @@ each-series P w i (suc n) (suc m) all h =
     subst (λ (j : ℕ). P (w j)) (omega arith) (each-series P w (suc i) n m (all .1) (omega arith))
 
 module _ (load : ℕ) (list : List Item) where
+  -- The window stays below the load.
   abbrev Below : Window → Type 0
   Below w = total (within w list) < load
 
@@ -75,15 +83,20 @@ module _ (load : ℕ) (list : List Item) where
         go false e later = later (omega (arith, step i, leb-false load (total (within (w i) list)) e))
 
 module _ (d : Disk) (list : List Item) (someSlots : 1 ≤ d .slots) (someLoad : 1 ≤ d .load) (most : ℕ) (entries : Each (Entry most) list) where
+  -- The window sums to at most the load less 1, plus the largest amount.
   abbrev SumMost : Window → Type 0
   SumMost w = total (within w list) + 1 ≤ d .load + most
 
+  -- The openings that are summed keep to it.
   openings-summed : Each SumMost (summed (d .load) list (openings (d .slots) (length list)))
   openings-summed =
       each-summed-series (d .load) list most (λ n. window 0 n) (λ j. total-take-suc most j list entries) 1
       (min (d .slots) (length list)) (omega (arith, total-take-suc most 0 list entries))
 
-  slidings-summed : Each (Below (d .load) list) (openings (d .slots) (length list)) → Each SumMost (summed (d .load) list (slidings (d .slots) (length list)))
+  -- So do the slidings, which are summed where no opening reaches the load.
+  slidings-summed :
+      Each (Below (d .load) list) (openings (d .slots) (length list))
+      → Each SumMost (summed (d .load) list (slidings (d .slots) (length list)))
   slidings-summed below = go (length list - d .slots) refl
     where
       go : (q : ℕ) → length list - d .slots ≡ q → Each SumMost (summed (d .load) list (series (λ s. window s (d .slots)) 1 q))
@@ -100,7 +113,7 @@ module _ (d : Disk) (list : List Item) (someSlots : 1 ≤ d .slots) (someLoad : 
               subst (λ (k : ℕ). total (take k list) < d .load) same
               (each-series (Below (d .load) list) (λ n. window 0 n) 1 (min (d .slots) (length list)) (d .slots - 1) below (omega arith))
 
-  -- Every opening or sliding window that is summed keeps to the bound.
+  -- Every window that is summed keeps to it.
   pub windows-summed :
       Each SumMost (summed (d .load) list (openings (d .slots) (length list) ++ slidings (d .slots) (length list)))
   windows-summed =

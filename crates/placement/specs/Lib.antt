@@ -6,7 +6,9 @@ pub mod Method
 pub mod Sharing
 pub mod Records
 pub mod Tables
+pub mod Held
 pub mod Planning
 pub mod Promise
 pub mod WellFormed
+pub mod PlanPromise
 pub mod Cases

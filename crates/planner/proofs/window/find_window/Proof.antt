@@ -10,7 +10,8 @@ use lib.ListN.{length, take}
 use Rattle.placement.specs.Items.{Item, total}
 use Rattle.placement.specs.Rack.{disk}
 use Rattle.placement.specs.Window.{Window, window, openings, slidings, lastWindow, firstReaching, windowOf}
-use Rattle.placement.proofs.Windows.{firstReaching-append, take-min}
+use Rattle.placement.proofs.Search.{firstReaching-append}
+use Rattle.placement.proofs.WindowCases.{take-min}
 use Rattle.planner.specs.Keys.{itemsOf}
 use Rattle.planner.specs.Search.{Opened}
 use Rattle.planner.proofs.Places.{length-itemsOf}
