@@ -25,7 +25,7 @@ pub data Windowed (d : Disk) (list : List Item) : Window → Type 0 where
       → Windowed d list (lastWindow (d .slots) (length list))
 
 -- Taking as many as there are at the most.
-take-min : (k : ℕ) (xs : List Item) → take (min k (length xs)) xs ≡ take k xs
+pub take-min : (k : ℕ) (xs : List Item) → take (min k (length xs)) xs ≡ take k xs
 take-min zero xs = rw zero-min
 take-min (suc k) [] = rw min-zero
 take-min (suc k) (x ∷ xs) = rw suc-min-suc (ap (λ (r : List Item). x ∷ r) (take-min k xs))

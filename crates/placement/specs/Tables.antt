@@ -14,6 +14,15 @@ pub record Tables : Type 0 where
   pub leftFilms : List ℕ
   pub leftAmounts : List ℕ
 
+abbrev pub tables : (films viewers counts leftFilms leftAmounts : List ℕ) → Tables
+tables films viewers counts leftFilms leftAmounts = record {
+  films = films;
+  viewers = viewers;
+  counts = counts;
+  leftFilms = leftFilms;
+  leftAmounts = leftAmounts;
+}
+
 -- A table of two slices has as many entries as the shorter one.
 abbrev pub copyPlaces : Tables → ℕ
 copyPlaces t = min (length (t .films)) (length (t .viewers))

@@ -14,3 +14,4 @@ pub mod LastDisk
 pub mod Written
 pub mod FilledTo
 pub mod LeftFilms
+pub mod Fulfilled

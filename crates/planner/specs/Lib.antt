@@ -3,3 +3,4 @@ pub mod Answers
 pub mod Verdicts
 pub mod Search
 pub mod Copies
+pub mod Plannable
