@@ -2,6 +2,7 @@ pub mod Cuts
 pub mod Places
 pub mod Judging
 pub mod Seen
+pub mod Checking
 pub mod Refusals
 pub mod Building
 pub mod Runs
