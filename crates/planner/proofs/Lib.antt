@@ -10,3 +10,4 @@ pub mod Search
 pub mod Overwrite
 pub mod Copies
 pub mod LeftFilms
+pub mod Answered
