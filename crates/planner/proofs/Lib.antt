@@ -9,3 +9,6 @@ pub mod DiskRun
 pub mod LastDisk
 pub mod Written
 pub mod FilledTo
+pub mod Openings
+pub mod Slides
+pub mod Remainder
