@@ -1,6 +1,6 @@
 -- The run of keys that a window is, and the list with less for its last item: entries and sums.
 use mathlib.Core.Path.{_≡_, refl, sym, ap, _∙_, subst}
-use mathlib.Core.List.{List, [], _∷_, _++_, map}
+use mathlib.Core.List.{List, [], _∷_, map}
 use Prim.Native.Nat.{ℕ, zero, suc, _+_, _-_, _/_, _%_, _≤_, _<_}
 use native.Mathlib.Omega.{arith}
 use lib.ListN.{length, take, drop, getD, length-map, length-drop, List·getD-map, List·getD-eq-default}
@@ -26,7 +26,7 @@ module _ (keys : List ℕ) (start size : ℕ) (inside : start + size ≤ length 
       length-map (take size (drop start keys)) itemOf
       ∙ length-take-le size (drop start keys) (subst (λ (n : ℕ). size ≤ n) (sym (length-drop start keys)) (omega arith))
 
-  run-at : (i : ℕ) → i < size → getD (runOf keys start size) i (item 0 0) ≡ itemOf (getD keys (start + i) 0)
+  pub run-at : (i : ℕ) → i < size → getD (runOf keys start size) i (item 0 0) ≡ itemOf (getD keys (start + i) 0)
   run-at i h =
       List·getD-map itemOf (take size (drop start keys)) i 0
       ∙ ap itemOf (getD-take size (drop start keys) i 0 h ∙ getD-drop start keys i 0)

@@ -11,3 +11,11 @@ pub mod Overwrite
 pub mod Copies
 pub mod LeftFilms
 pub mod Answered
+pub mod Stored
+pub mod DiskRun
+pub mod LastDisk
+pub mod Written
+pub mod FilledTo
+pub mod Openings
+pub mod Slides
+pub mod Remainder

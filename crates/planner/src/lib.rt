@@ -1,5 +1,6 @@
 // Planning: the bytes of a demand list to the lent tables, in steps of one module each.
 mod build; // build.rt: the list of the method from the records
+mod fill; // fill.rt: one disk filled, and all disks
 mod judge; // judge.rt: the refusals of planning
 mod key; // key.rt: the two parts of a key
 mod left; // left.rt: the left table
