@@ -1,14 +1,15 @@
 -- A disk's window as a run of keys: where it lies, what is stored of it, and what the next list is.
-use mathlib.Core.Path.{_≡_, refl, sym, ap, ap₂, _∙_, subst}
+use mathlib.Core.Path.{_≡_, sym, ap, ap₂, _∙_, subst}
 use mathlib.Core.List.{List, map}
 use Prim.Native.Nat.{ℕ, _+_, _-_, _≤_, _<_}
 use native.Mathlib.Omega.{arith}
 use lib.ListN.{length, take, drop}
 use lib.Seq.{take-take}
-use Rattle.placement.specs.Items.{Item, item, total, filmOf, enter}
-use Rattle.placement.specs.Rack.{Disk, disk}
+use Rattle.placement.specs.Items.{Item, item, total, filmOf, amountOf, enter}
+use Rattle.placement.specs.Rack.{disk}
 use Rattle.placement.specs.Window.{Window, window, within, outside, windowOf}
 use Rattle.placement.specs.Disk.{allButLast, lastFilm, stored, copiesOf, listAfter}
+use Rattle.placement.specs.Tables.{padded, written}
 use Rattle.placement.proofs.Windows.{Windowed, window-cases, window-inside, window-size, window-last-needed}
 use Rattle.placement.proofs.Disks.{copies-total, copies-load}
 use Rattle.planner.specs.Keys.{itemOf, itemsOf}
@@ -138,3 +139,22 @@ filling keys n slots load start size sum over room someSlots someLoad is sum-is 
       serves = omega (arith, ap total copied);
       after = sym (disk-after keys n slots load start size room someSlots someLoad is over overs);
     }
+
+module _ {keys : List ℕ} {n slots load start size sum over : ℕ} (f : Filling keys n slots load start size sum over) where
+  -- The run stored is the disk's copies stored.
+  pub films-stored :
+      (old : List ℕ) {exit : List ℕ} → exit ≡ written (padded slots (map filmOf (runOf keys start size))) old
+      → exit ≡ written (padded slots (map filmOf (copiesOf (disk slots load) (itemsOf keys n)))) old
+  films-stored old e = e ∙ ap (λ (l : List ℕ). written (padded slots l) old) (f .films)
+
+  pub viewers-stored :
+      (old : List ℕ) {exit : List ℕ} → exit ≡ written (padded slots (map amountOf (lessLast over (runOf keys start size)))) old
+      → exit ≡ written (padded slots (map amountOf (copiesOf (disk slots load) (itemsOf keys n)))) old
+  viewers-stored old e = e ∙ ap (λ (l : List Item). written (padded slots (map amountOf l)) old) (f .copies)
+
+  -- The window taken out leaves the next list.
+  pub window-taken :
+      {exit : List Item}
+      → exit ≡ enter (item (lastFilm (runOf keys start size) .film) over) (outside (window start size) (itemsOf keys n))
+      → exit ≡ listAfter (disk slots load) (itemsOf keys n)
+  window-taken e = e ∙ f .after

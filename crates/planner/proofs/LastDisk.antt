@@ -1,14 +1,14 @@
 -- The method by its last disk: what one disk more adds to the placement, to the tables' places and to the sums.
 use mathlib.Core.Path.{_≡_, refl, sym, ap, _∙_, subst}
 use mathlib.Core.List.{List, [], _∷_, _++_, map, append-nil, append-assoc, map-append}
-use Prim.Native.Nat.{ℕ, zero, suc, _+_, _-_, _*_, _≤_, min}
+use Prim.Native.Nat.{ℕ, zero, suc, _+_, _*_, _≤_}
 use native.Mathlib.Nat.{suc-mul}
 use native.Mathlib.Omega.{arith}
-use lib.ListN.{length, take, drop, length-append, length-map, length-take, replicate-append-replicate}
+use lib.ListN.{length, drop, length-append, length-map, length-take, replicate-append-replicate}
 use Rattle.placement.specs.Items.{Item, total, filmOf}
 use Rattle.placement.specs.Rack.{Disk, disk, rackOf}
 use Rattle.placement.specs.Window.{within, windowOf}
-use Rattle.placement.specs.Disk.{stored, copiesOf, listAfter}
+use Rattle.placement.specs.Disk.{copiesOf, listAfter}
 use Rattle.placement.specs.Method.{placement, remaining, served}
 use Rattle.placement.specs.Tables.{padded, places}
 use Rattle.placement.proofs.Windows.{window-cases, window-size}

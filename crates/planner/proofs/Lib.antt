@@ -2,16 +2,22 @@ pub mod Cuts
 pub mod Places
 pub mod Judging
 pub mod Seen
+pub mod Checking
 pub mod Refusals
 pub mod Building
 pub mod Runs
 pub mod Search
 pub mod Overwrite
 pub mod Copies
+pub mod LeftFilms
+pub mod Answered
 pub mod Stored
 pub mod DiskRun
 pub mod LastDisk
 pub mod Written
 pub mod FilledTo
-pub mod LeftFilms
 pub mod Fulfilled
+pub mod Openings
+pub mod Slides
+pub mod Remainder
+

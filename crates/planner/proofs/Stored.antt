@@ -4,7 +4,6 @@ use mathlib.Core.List.{List, [], _∷_, _++_}
 use Prim.Native.Nat.{ℕ, _+_, _-_, _≤_, _<_}
 use native.Mathlib.Nat.{sub-zero}
 use native.Mathlib.Omega.{arith}
-use lib.ListN.{length}
 use Rattle.placement.specs.Items.{Item, item, total, amountOf}
 use Rattle.placement.specs.Disk.{allButLast, lastFilm, stored}
 use Rattle.placement.proofs.Tests.{by-order}

@@ -1,10 +1,10 @@
 -- Tables whose first places are written: their length, one more place, and a part behind that was lent on.
-use mathlib.Core.Path.{_≡_, refl, sym, ap, ap₂, _∙_, subst}
+use mathlib.Core.Path.{_≡_, sym, ap, ap₂, _∙_}
 use mathlib.Core.List.{List, [], _∷_, _++_, append-nil, append-assoc}
 use Prim.Native.Nat.{ℕ, suc, _+_, _-_, _≤_, _<_}
 use native.Mathlib.Omega.{arith}
-use lib.ListN.{length, take, drop, getD, set, length-append, length-drop, drop-of-length-le}
-use lib.Seq.{take-all, drop-cons, drop-drop, set-at, take-at, drop-at, append-snoc}
+use lib.ListN.{length, take, drop, getD, set, length-append, length-take, length-drop, drop-of-length-le}
+use lib.Seq.{take-all, drop-cons, drop-drop, set-at, take-at, drop-at}
 use borrow.Rule.Slice.PartMut.{putMid}
 use Rattle.placement.specs.Tables.{written}
 
@@ -58,3 +58,7 @@ written-part new more old now part a e l h p =
 
     none-behind : drop (length now - a) (drop a now) ≡ []
     none-behind = drop-of-length-le (drop a now) {i = length now - a} (omega (arith, length-drop a now))
+
+-- A part from a on has room for what fits behind a.
+pub part-room : (now : List ℕ) (a k : ℕ) → a + k ≤ length now → k ≤ length (take (length now - a) (drop a now))
+part-room now a k h = omega (arith, length-take (length now - a) (drop a now), length-drop a now)

@@ -1,15 +1,14 @@
 -- `planner::fill::fill_all` meets its contract. The invariant: the first disks are filled from the list.
-use mathlib.Core.Path.{_≡_, refl, ap, _∙_, subst}
-use mathlib.Core.List.{List}
-use Prim.Native.Nat.{ℕ, _+_, _-_, _*_, _≤_, _<_}
+use mathlib.Core.Path.{_≡_, refl, _∙_, subst}
+use Prim.Native.Nat.{ℕ, _+_, _-_, _*_, _≤_}
 use native.Mathlib.Nat.{mul-le-mul-right, suc-mul}
 use native.Mathlib.Omega.{arith}
-use borrow.Author.Needs.{needs}
-use lib.ListN.{length, take, drop, length-take, length-drop}
+use lib.ListN.{length}
 use Rattle.placement.specs.Rack.{disk}
 use Rattle.placement.proofs.Disks.{copies-load}
 use Rattle.planner.specs.Keys.{itemsOf}
 use Rattle.planner.proofs.FilledTo.{FilledTo, filled-none, films-length, viewers-length, counts-same, sum-most, filled-more}
+use Rattle.planner.proofs.Written.{part-room}
 use Rattle.planner.proofs.fill.fill_all.Statement.{statement}
 use Rattle.planner.proofs.fill.fill_all.Tie as tie
 
@@ -35,27 +34,11 @@ head at-loop =
     mul-le-mul-right (at-start .args .slots) (at-loop .loop .inv .0) in
     record {
       first = place;
-      films = films-length (at-start .args .films .now) (at-start .args .viewers .now) (at-start .args .counts .now)
-          (itemsOf (at-start .args .keys .now) (at-start .args .n)) (at-start .args .slots) (at-start .args .load) (at-loop .loop .films)
-          (at-loop .loop .viewers) (at-loop .loop .counts) (at-loop .loop .keys) (at-loop .loop .filled) (at-loop .loop .left)
-          (at-loop .loop .served) (at-start .pre .1 .1) (at-start .pre .1 .3) (at-loop .loop .inv .3) (omega arith);
-      viewers = viewers-length (at-start .args .films .now) (at-start .args .viewers .now) (at-start .args .counts .now)
-          (itemsOf (at-start .args .keys .now) (at-start .args .n)) (at-start .args .slots) (at-start .args .load) (at-loop .loop .films)
-          (at-loop .loop .viewers) (at-loop .loop .counts) (at-loop .loop .keys) (at-loop .loop .filled) (at-loop .loop .left)
-          (at-loop .loop .served) (at-start .pre .1 .1) (at-start .pre .1 .3) (at-loop .loop .inv .3) (omega arith);
-      counts = counts-same (at-start .args .films .now) (at-start .args .viewers .now) (at-start .args .counts .now)
-          (itemsOf (at-start .args .keys .now) (at-start .args .n)) (at-start .args .slots) (at-start .args .load) (at-loop .loop .films)
-          (at-loop .loop .viewers) (at-loop .loop .counts) (at-loop .loop .keys) (at-loop .loop .filled) (at-loop .loop .left)
-          (at-loop .loop .served) (at-start .pre .1 .1) (at-start .pre .1 .3) (at-loop .loop .inv .3) (omega arith);
-      small = sum-most (at-start .args .films .now) (at-start .args .viewers .now) (at-start .args .counts .now)
-          (itemsOf (at-start .args .keys .now) (at-start .args .n)) (at-start .args .slots) (at-start .args .load) (at-loop .loop .films)
-          (at-loop .loop .viewers) (at-loop .loop .counts) (at-loop .loop .keys) (at-loop .loop .filled) (at-loop .loop .left)
-          (at-loop .loop .served) (at-start .pre .1 .1) (at-start .pre .1 .3) (at-loop .loop .inv .3) (at-start .pre .1 .4);
+      films = films-length (at-start .pre .1 .1) (at-start .pre .1 .3) (at-loop .loop .inv .3) (omega arith);
+      viewers = viewers-length (at-start .pre .1 .1) (at-start .pre .1 .3) (at-loop .loop .inv .3) (omega arith);
+      counts = counts-same (at-start .pre .1 .1) (at-start .pre .1 .3) (at-loop .loop .inv .3) (omega arith);
+      small = sum-most (at-start .pre .1 .1) (at-start .pre .1 .3) (at-loop .loop .inv .3) (at-start .pre .1 .4);
     }
-
--- A part from a on has room for what fits behind a.
-fill-room : (now : List ℕ) (a k : ℕ) → a + k ≤ length now → k ≤ length (take (length now - a) (drop a now))
-fill-room now a k h = omega (arith, length-take (length now - a) (drop a now), length-drop a now)
 
 -- In a turn there is room for one disk more.
 ends :
@@ -110,9 +93,9 @@ fill-one-requires c κs =
     let at-loop = at-turn .before in
     let at-start = at-loop .before .before .before .before .before in (
       (
-        fill-room (at-loop .loop .films) (at-loop .loop .filled * at-start .args .slots) (at-start .args .slots)
+        part-room (at-loop .loop .films) (at-loop .loop .filled * at-start .args .slots) (at-start .args .slots)
             (omega (arith, head at-loop .films, ends at-turn)),
-        fill-room (at-loop .loop .viewers) (at-loop .loop .filled * at-start .args .slots) (at-start .args .slots)
+        part-room (at-loop .loop .viewers) (at-loop .loop .filled * at-start .args .slots) (at-start .args .slots)
             (omega (arith, head at-loop .viewers, ends at-turn)),
         omega arith,
       ),
@@ -155,12 +138,8 @@ loop-again c =
       omega arith,
       omega (arith, at-fill .fill-one .ensures .1 .1 .1 .1),
       at-fill .fill-one .kept .1 .1 .0 ∙ at-loop .loop .inv .2,
-      filled-more (at-start .args .films .now) (at-start .args .viewers .now) (at-start .args .counts .now)
-          (itemsOf (at-start .args .keys .now) (at-start .args .n)) (at-start .args .slots) (at-start .args .load) (at-loop .loop .films)
-          (at-loop .loop .viewers) (at-loop .loop .counts) (at-loop .loop .keys) (at-loop .loop .filled) (at-loop .loop .left)
-          (at-loop .loop .served) (at-start .pre .1 .1) (at-start .pre .1 .3) (at-loop .loop .inv .3)
-          (at-fill .fill-one .last .0) (at-fill .fill-one .last .1 .0) (at-fill .fill-one .last .1 .1 .0) (at-fill .fill-one .result .left)
-          (at-fill .fill-one .result .copies) (at-fill .fill-one .result .served) (omega (arith, h .first)) (omega (arith, h .first)) (omega arith)
+      filled-more (at-start .pre .1 .1) (at-start .pre .1 .3) (at-loop .loop .inv .3)
+          (omega (arith, h .first)) (omega (arith, h .first)) (omega arith)
           (at-fill .fill-one .ensures .0) (at-fill .fill-one .ensures .1 .0) (at-fill .fill-one .ensures .1 .1 .0)
           (at-fill .fill-one .ensures .1 .1 .1 .0 .0) (at-fill .fill-one .ensures .1 .1 .1 .0 .1),
     )

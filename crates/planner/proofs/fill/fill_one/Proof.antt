@@ -1,12 +1,7 @@
 -- `planner::fill::fill_one` meets its contract by what is known of the disk's window.
-use mathlib.Core.Path.{ap, _∙_}
-use mathlib.Core.List.{List, map}
-use Prim.Native.Nat.{ℕ}
 use native.Mathlib.Omega.{arith}
 use borrow.Author.Needs.{needs}
-use Rattle.placement.specs.Items.{Item, amountOf}
-use Rattle.placement.specs.Tables.{padded, written}
-use Rattle.planner.proofs.DiskRun.{Filling, filling}
+use Rattle.planner.proofs.DiskRun.{Filling, filling, films-stored, viewers-stored, window-taken}
 use Rattle.planner.proofs.fill.fill_one.Statement.{statement}
 use Rattle.planner.proofs.fill.fill_one.Tie as tie
 
@@ -74,11 +69,10 @@ returns c =
     let at-excess = at-films .before .before .before in
     let at-start = at-excess .before .before .before .before .before .before in
     let k = known at-excess in (
-      at-films .store-films .ensures ∙ ap (λ (l : List ℕ). written (padded (at-start .args .slots) l) (at-start .args .films .now)) (k .films),
+      films-stored k (at-start .args .films .now) (at-films .store-films .ensures),
       (
-        at-viewers .store-viewers .ensures
-            ∙ ap (λ (l : List Item). written (padded (at-start .args .slots) (map amountOf l)) (at-start .args .viewers .now)) (k .copies),
-        (c .before .before .take-window .ensures .0 ∙ k .after, ((k .count, k .serves), c .before .before .take-window .ensures .1)),
+        viewers-stored k (at-start .args .viewers .now) (at-viewers .store-viewers .ensures),
+        (window-taken k (c .before .before .take-window .ensures .0), ((k .count, k .serves), c .before .before .take-window .ensures .1)),
       ),
     )
 

@@ -1,59 +1,18 @@
 -- `planner::fill::take_window` meets its contract: the key that enters is that of the window's last film with what remains of it.
-use mathlib.Core.Path.{_≡_, sym, ap, ap₂, _∙_}
+use mathlib.Core.Path.{sym, ap₂, _∙_}
 use mathlib.Core.List.{List}
-use Prim.Native.Nat.{ℕ, zero, suc, _+_, _-_, _*_, _/_, _%_, _≤_, _<_}
+use Prim.Native.Nat.{_+_, _-_, _≤_}
 use native.Mathlib.Omega.{arith}
 use borrow.Author.Needs.{needs}
-use lib.ListN.{length, getD}
 use Rattle.placement.specs.Items.{Item, item, enter, insertBy, before}
 use Rattle.placement.specs.Disk.{lastFilm}
 use Rattle.placement.specs.Window.{window, outside}
 use Rattle.placement.proofs.Tests.{passed}
-use Rattle.planner.specs.Keys.{itemOf, itemsOf}
+use Rattle.planner.specs.Keys.{itemsOf}
 use Rattle.planner.specs.Copies.{runOf}
-use Rattle.planner.proofs.Copies.{run-length, run-at}
+use Rattle.planner.proofs.Remainder.{last-some, remainder-key, remainder-fits}
 use Rattle.planner.proofs.fill.take_window.Statement.{statement}
 use Rattle.planner.proofs.fill.take_window.Tie as tie
-
--- A window whose last film has something has a film.
-last-some : (keys : List ℕ) (start size over : ℕ) → 1 ≤ over → over ≤ lastFilm (runOf keys start size) .amount → 1 ≤ size
-last-some keys start zero over some h = absurd (omega arith)
-last-some keys start (suc size) over some h = omega arith
-
--- The window's last film is that of its last key.
-last-is :
-    (keys : List ℕ) (start size : ℕ) → start + size ≤ length keys → 1 ≤ size
-    → lastFilm (runOf keys start size) ≡ itemOf (getD keys (start + (size - 1)) 0)
-last-is keys start size inside some =
-    ap (λ (m : ℕ). getD (runOf keys start size) (m - 1) (item 0 0)) (run-length keys start size inside)
-    ∙ run-at keys start size inside (size - 1) (omega arith)
-
--- The key of a film and an amount.
-key-film : (amount film : ℕ) → film < 65536 → (amount * 65536 + film) % 65536 ≡ film
-key-film amount film h = omega arith
-
-key-amount : (amount film : ℕ) → film < 65536 → (amount * 65536 + film) / 65536 ≡ amount
-key-amount amount film h = omega arith
-
--- The key that enters is that of the remainder.
-remains :
-    (keys : List ℕ) (start size over film : ℕ) → start + size ≤ length keys → 1 ≤ size
-    → film ≡ getD keys (start + (size - 1)) 0 % 65536
-    → itemOf (over * 65536 + film) ≡ item (lastFilm (runOf keys start size) .film) over
-remains keys start size over film inside some e =
-    ap₂ (λ (f a : ℕ). item f a) (key-film over film (omega arith)) (key-amount over film (omega arith))
-    ∙ ap (λ (f : ℕ). item f over) (e ∙ ap (λ (x : Item). x .film) (sym (last-is keys start size inside some)))
-
--- It fits.
-fits :
-    (keys : List ℕ) (start size over film : ℕ) → start + size ≤ length keys → 1 ≤ over
-    → over ≤ lastFilm (runOf keys start size) .amount
-    → film ≡ getD keys (start + (size - 1)) 0 % 65536
-    → over * 65536 + film ≤ getD keys (start + (size - 1)) 0
-fits keys start size over film inside some h e =
-    let amounts : lastFilm (runOf keys start size) .amount ≡ getD keys (start + (size - 1)) 0 / 65536 =
-    ap (λ (x : Item). x .amount) (last-is keys start size inside (last-some keys start size over some h)) in
-    omega arith
 
 remove-requires : tie.Need-remove-requires
 remove-requires c κs = search needs
@@ -108,7 +67,7 @@ mul-enter c =
     let at-start = at-film .before .before .before .before in
     omega (
       arith,
-      fits (at-start .args .keys .now) (at-start .args .start) (at-start .args .size) (at-start .args .over) (at-film .film .result) (omega arith)
+      remainder-fits (at-start .args .keys .now) (at-start .args .start) (at-start .args .size) (at-start .args .over) (at-film .film .result) (omega arith)
           (at-film .before .before .if1 .left) (at-start .pre .1) (at-film .film .ensures),
       at-film .before .slice-known3 .given (at-start .args .start + (at-start .args .size - 1)),
     )
@@ -122,7 +81,7 @@ add-enter c =
     let at-start = at-film .before .before .before .before in
     omega (
       arith,
-      fits (at-start .args .keys .now) (at-start .args .start) (at-start .args .size) (at-start .args .over) (at-film .film .result) (omega arith)
+      remainder-fits (at-start .args .keys .now) (at-start .args .start) (at-start .args .size) (at-start .args .over) (at-film .film .result) (omega arith)
           (at-film .before .before .if1 .left) (at-start .pre .1) (at-film .film .ensures),
       at-film .before .slice-known3 .given (at-start .args .start + (at-start .args .size - 1)),
     )
@@ -149,7 +108,7 @@ returns-2 c =
     last-some (at-start .args .keys .now) (at-start .args .start) (at-start .args .size) (at-start .args .over) (at-film .before .before .if1 .left) (at-start .pre .1) in (
       at-enter .enter .ensures .0
           ∙ ap₂ (λ (x : Item) (list : List Item). enter x list)
-          (remains (at-start .args .keys .now) (at-start .args .start) (at-start .args .size) (at-start .args .over) (at-film .film .result) (omega arith) some (at-film .film .ensures))
+          (remainder-key (at-start .args .keys .now) (at-start .args .start) (at-start .args .size) (at-start .args .over) (at-film .film .result) (omega arith) some (at-film .film .ensures))
           (at-enter .before .before .before .before .remove2 .ensures),
       omega (arith, at-enter .enter .ensures .1),
     )
