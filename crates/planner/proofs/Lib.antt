@@ -12,3 +12,5 @@ pub mod FilledTo
 pub mod Openings
 pub mod Slides
 pub mod Remainder
+pub mod Filling
+pub mod FillRoom
