@@ -71,3 +71,22 @@ pub tables-same :
 tables-same {f} {f'} {v} {v'} {c} {c'} {lf} {lf'} {la} {la'} p q r s u =
     ap₂ (λ (x y : List ℕ). tables x y c lf la) p q ∙ ap₂ (λ (x y : List ℕ). tables f' v' x y la) r s
     ∙ ap (λ (x : List ℕ). tables f' v' c' lf' x) u
+
+module _ (c : Call) (t : Tables) (first last : List Item) (exit : Tables) (s u n : ℕ) (steps : Steps c t first last exit s u n) where
+  -- The list at last is what remains of the records' list.
+  last-remains : last ≡ remaining (disksIn c) (listOf (recordsIn c))
+  last-remains = steps .remains ∙ ap (remaining (disksIn c)) (steps .built)
+
+  -- They leave the plan of the call in the tables.
+  pub steps-tables : exit ≡ tablesFor c t planned
+  steps-tables =
+      tables-same (steps .films) (steps .viewers) (steps .counts) (steps .leftFilms) (steps .leftAmounts)
+      ∙ ap₂ (λ (f l : List Item). holding (disksIn c) (recordCount c) (placement (disksIn c) f) (byFilm l) t) (steps .built) last-remains
+
+  -- They answer its numbers.
+  pub steps-numbers : numbersOfPlan s u n ≡ answerFor c planned
+  steps-numbers =
+      ap₂ (λ (a b : ℕ). numbersOfPlan a b n) (steps .serves ∙ ap (λ (f : List Item). served (placement (disksIn c) f)) (steps .built))
+      (steps .lacks ∙ ap total last-remains)
+      ∙ ap (λ (m : ℕ). numbersOfPlan (served (placement (disksIn c) (listOf (recordsIn c)))) (unserved (disksIn c) (listOf (recordsIn c))) m)
+      (steps .count ∙ ap length last-remains ∙ sym (byFilm-length (remaining (disksIn c) (listOf (recordsIn c)))))

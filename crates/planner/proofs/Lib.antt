@@ -20,4 +20,5 @@ pub mod Fulfilled
 pub mod Openings
 pub mod Slides
 pub mod Remainder
-
+pub mod Filling
+pub mod FillRoom

@@ -1,13 +1,13 @@
 -- `planner::fill::fill_all` meets its contract. The invariant: the first disks are filled from the list.
 use mathlib.Core.Path.{_≡_, refl, _∙_, subst}
-use Prim.Native.Nat.{ℕ, _+_, _-_, _*_, _≤_}
-use native.Mathlib.Nat.{mul-le-mul-right, suc-mul}
+use Prim.Native.Nat.{ℕ, _-_, _*_, _≤_}
 use native.Mathlib.Omega.{arith}
 use lib.ListN.{length}
 use Rattle.placement.specs.Rack.{disk}
 use Rattle.placement.proofs.Disks.{copies-load}
 use Rattle.planner.specs.Keys.{itemsOf}
-use Rattle.planner.proofs.FilledTo.{FilledTo, filled-none, films-length, viewers-length, counts-same, sum-most, filled-more}
+use Rattle.planner.proofs.FilledTo.{FilledTo, filled-none, filled-more}
+use Rattle.planner.proofs.FillRoom.{Room, room}
 use Rattle.planner.proofs.Written.{part-room}
 use Rattle.planner.proofs.fill.fill_all.Statement.{statement}
 use Rattle.planner.proofs.fill.fill_all.Tie as tie
@@ -19,36 +19,17 @@ Inv-loop films₀ viewers₀ counts₀ keys₀ n disks slots load filled₀ left
 abbrev μ-loop : tie.MeasureT-loop
 μ-loop films₀ viewers₀ counts₀ keys₀ n disks slots load filled₀ left₀ served₀ films viewers counts keys filled left served = disks - filled
 
--- The lengths of the tables at the loop's head, and the place of the next disk.
-record Head (c : tie.At-loop Inv-loop μ-loop) : Type 0 where
-  first : c .loop .filled * c .before .before .before .before .before .args .slots ≤ c .before .before .before .before .before .args .disks * c .before .before .before .before .before .args .slots
-  films : length (c .loop .films) ≡ length (c .before .before .before .before .before .args .films .now)
-  viewers : length (c .loop .viewers) ≡ length (c .before .before .before .before .before .args .viewers .now)
-  counts : length (c .loop .counts) ≡ length (c .before .before .before .before .before .args .counts .now)
-  small : c .loop .served ≤ c .loop .filled * 65535
-
-head : (c : tie.At-loop Inv-loop μ-loop) → Head c
-head at-loop =
-    let at-start = at-loop .before .before .before .before .before in
-    let place : at-loop .loop .filled * at-start .args .slots ≤ at-start .args .disks * at-start .args .slots =
-    mul-le-mul-right (at-start .args .slots) (at-loop .loop .inv .0) in
-    record {
-      first = place;
-      films = films-length (at-start .pre .1 .1) (at-start .pre .1 .3) (at-loop .loop .inv .3) (omega arith);
-      viewers = viewers-length (at-start .pre .1 .1) (at-start .pre .1 .3) (at-loop .loop .inv .3) (omega arith);
-      counts = counts-same (at-start .pre .1 .1) (at-start .pre .1 .3) (at-loop .loop .inv .3) (omega arith);
-      small = sum-most (at-start .pre .1 .1) (at-start .pre .1 .3) (at-loop .loop .inv .3) (at-start .pre .1 .4);
-    }
-
--- In a turn there is room for one disk more.
-ends :
-    (c : tie.In-loop Inv-loop μ-loop)
-    → c .before .loop .filled * c .before .before .before .before .before .before .args .slots + c .before .before .before .before .before .before .args .slots
-    ≤ c .before .before .before .before .before .before .args .disks * c .before .before .before .before .before .before .args .slots
-ends c =
-    let at-start = c .before .before .before .before .before .before in
-    subst (λ (m : ℕ). m ≤ at-start .args .disks * at-start .args .slots) (suc-mul (c .before .loop .filled) (at-start .args .slots))
-    (mul-le-mul-right (at-start .args .slots) (c .loop-test .taken))
+-- The tables at the loop's head.
+head :
+    (c : tie.At-loop Inv-loop μ-loop)
+    → Room (c .before .before .before .before .before .args .films .now) (c .before .before .before .before .before .args .viewers .now)
+    (c .before .before .before .before .before .args .counts .now) (c .before .before .before .before .before .args .disks)
+    (c .before .before .before .before .before .args .slots) (c .loop .films) (c .loop .viewers) (c .loop .counts) (c .loop .filled)
+    (c .loop .served)
+head c =
+    let at-start = c .before .before .before .before .before in
+    room (at-start .pre .0 .0) (at-start .pre .0 .1) (at-start .pre .0 .2) (at-start .pre .1 .1) (at-start .pre .1 .3) (at-start .pre .1 .4)
+    (c .loop .inv .0) (c .loop .inv .3)
 
 loop-holds : tie.Need-loop-holds Inv-loop μ-loop
 loop-holds c =
@@ -61,31 +42,31 @@ loop-holds c =
     )
 
 mul-first : tie.Need-mul-first Inv-loop μ-loop
-mul-first c = omega (arith, head (c .before) .films, ends c)
+mul-first c = omega (arith, head (c .before) .films-length, head (c .before) .next (c .loop-test .taken))
 
 mul-fill-one : tie.Need-mul-fill-one Inv-loop μ-loop
-mul-fill-one c = omega (arith, head (c .before) .films, ends c)
+mul-fill-one c = omega (arith, head (c .before) .films-length, head (c .before) .next (c .loop-test .taken))
 
 sub-fill-one : tie.Need-sub-fill-one Inv-loop μ-loop
-sub-fill-one c = omega (arith, head (c .before) .films, ends c)
+sub-fill-one c = omega (arith, head (c .before) .films-length, head (c .before) .next (c .loop-test .taken))
 
 part-fill-one-start : tie.Need-part-fill-one-start Inv-loop μ-loop
-part-fill-one-start c = omega (arith, head (c .before) .films, ends c)
+part-fill-one-start c = omega (arith, head (c .before) .films-length, head (c .before) .next (c .loop-test .taken))
 
 part-fill-one-end : tie.Need-part-fill-one-end Inv-loop μ-loop
-part-fill-one-end c = omega (arith, head (c .before) .films, ends c)
+part-fill-one-end c = omega (arith, head (c .before) .films-length, head (c .before) .next (c .loop-test .taken))
 
 mul-fill-one-2 : tie.Need-mul-fill-one-2 Inv-loop μ-loop
-mul-fill-one-2 c = omega (arith, head (c .before .before) .viewers, ends (c .before))
+mul-fill-one-2 c = omega (arith, head (c .before .before) .viewers-length, head (c .before .before) .next (c .before .loop-test .taken))
 
 sub-fill-one-2 : tie.Need-sub-fill-one-2 Inv-loop μ-loop
-sub-fill-one-2 c = omega (arith, head (c .before .before) .viewers, ends (c .before))
+sub-fill-one-2 c = omega (arith, head (c .before .before) .viewers-length, head (c .before .before) .next (c .before .loop-test .taken))
 
 part-fill-one-start-2 : tie.Need-part-fill-one-start-2 Inv-loop μ-loop
-part-fill-one-start-2 c = omega (arith, head (c .before .before) .viewers, ends (c .before))
+part-fill-one-start-2 c = omega (arith, head (c .before .before) .viewers-length, head (c .before .before) .next (c .before .loop-test .taken))
 
 part-fill-one-end-2 : tie.Need-part-fill-one-end-2 Inv-loop μ-loop
-part-fill-one-end-2 c = omega (arith, head (c .before .before) .viewers, ends (c .before))
+part-fill-one-end-2 c = omega (arith, head (c .before .before) .viewers-length, head (c .before .before) .next (c .before .loop-test .taken))
 
 fill-one-requires : tie.Need-fill-one-requires Inv-loop μ-loop
 fill-one-requires c κs =
@@ -94,19 +75,19 @@ fill-one-requires c κs =
     let at-start = at-loop .before .before .before .before .before in (
       (
         part-room (at-loop .loop .films) (at-loop .loop .filled * at-start .args .slots) (at-start .args .slots)
-            (omega (arith, head at-loop .films, ends at-turn)),
+            (omega (arith, head at-loop .films-length, head at-loop .next (at-turn .loop-test .taken))),
         part-room (at-loop .loop .viewers) (at-loop .loop .filled * at-start .args .slots) (at-start .args .slots)
-            (omega (arith, head at-loop .viewers, ends at-turn)),
+            (omega (arith, head at-loop .viewers-length, head at-loop .next (at-turn .loop-test .taken))),
         omega arith,
       ),
       (at-start .pre .1 .1, at-start .pre .1 .2, at-start .pre .1 .3, at-start .pre .1 .4),
     )
 
 mul-counts : tie.Need-mul-counts Inv-loop μ-loop
-mul-counts c = omega (arith, head (c .before .before .before .before .before .before .before .before .before .before .before) .counts)
+mul-counts c = omega (arith, head (c .before .before .before .before .before .before .before .before .before .before .before) .counts-length)
 
 slice-write-counts : tie.Need-slice-write-counts Inv-loop μ-loop
-slice-write-counts c = omega (arith, head (c .before .before .before .before .before .before .before .before .before .before .before) .counts)
+slice-write-counts c = omega (arith, head (c .before .before .before .before .before .before .before .before .before .before .before) .counts-length)
 
 add-served : tie.Need-add-served Inv-loop μ-loop
 add-served c =
@@ -145,13 +126,13 @@ loop-again c =
     )
 
 same-length : tie.Need-same-length Inv-loop μ-loop
-same-length c = head (c .before) .films
+same-length c = head (c .before) .films-length
 
 same-length-2 : tie.Need-same-length-2 Inv-loop μ-loop
-same-length-2 c = head (c .before) .viewers
+same-length-2 c = head (c .before) .viewers-length
 
 same-length-3 : tie.Need-same-length-3 Inv-loop μ-loop
-same-length-3 c = head (c .before) .counts
+same-length-3 c = head (c .before) .counts-length
 
 same-length-4 : tie.Need-same-length-4 Inv-loop μ-loop
 same-length-4 c = c .before .loop .inv .2

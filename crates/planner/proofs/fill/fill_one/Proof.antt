@@ -1,7 +1,7 @@
 -- `planner::fill::fill_one` meets its contract by what is known of the disk's window.
 use native.Mathlib.Omega.{arith}
 use borrow.Author.Needs.{needs}
-use Rattle.planner.proofs.DiskRun.{Filling, filling, films-stored, viewers-stored, window-taken}
+use Rattle.planner.proofs.Filling.{Filling, filling, films-stored, viewers-stored, window-taken}
 use Rattle.planner.proofs.fill.fill_one.Statement.{statement}
 use Rattle.planner.proofs.fill.fill_one.Tie as tie
 

@@ -5,7 +5,10 @@ use Rattle.planner.proofs.fulfil.fill_with.Statement.{statement}
 use Rattle.planner.proofs.fulfil.fill_with.Tie as tie
 
 build-requires : tie.Need-build-requires
-build-requires c κs = ?
+build-requires c κs =
+    let start = c .before .before .before .before .before .before .before .before in
+    let p = start .pre .0 in
+    (omega (arith, p .formed .inRange .recordsMost, start .pre .1), p .formed .accepted .demanded)
 
 cast-disks : tie.Need-cast-disks
 cast-disks c = search needs
@@ -17,7 +20,11 @@ cast-load : tie.Need-cast-load
 cast-load c = search needs
 
 fill-all-requires : tie.Need-fill-all-requires
-fill-all-requires c κs = ?
+fill-all-requires c κs =
+    let start = c .before .before .before .before .before .before .before .before .before .before .before .before .before .before .before .before .before .before in
+    let p = start .pre .0 in
+    let r = p .formed .inRange in
+    ((p .films, p .viewers, p .counts, omega (arith, r .recordsMost, start .pre .1, c .before .before .before .before .before .before .before .before .before .build .ensures .1)), (r .disksMost, r .slotsLeast, r .slotsMost, r .streamsLeast, r .streamsMost))
 
 store-left-requires : tie.Need-store-left-requires
 store-left-requires c κs = ?
