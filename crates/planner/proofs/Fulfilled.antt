@@ -2,7 +2,7 @@
 use mathlib.Core.Path.{_≡_, refl, sym, ap, ap₂, _∙_}
 use mathlib.Core.Bool.{true, _&&_}
 use mathlib.Core.List.{List, [], map}
-use Prim.Native.Nat.{ℕ, _*_, _%_, _≤_, min}
+use Prim.Native.Nat.{ℕ, _*_, _%_, _≤_, _<_, min}
 use native.Mathlib.Omega.{arith}
 use borrow.Author.Tests.{leb-true}
 use lib.Dec.{leb, eqb}
@@ -13,6 +13,7 @@ use Rattle.placement.specs.Records.{Verdict, planned, refused, unless, judgeRec
 use Rattle.placement.specs.Method.{placement, remaining, served, unserved}
 use Rattle.placement.specs.Tables.{Tables, tables, copyPlaces, leftPlaces, padded, written, places, holding}
 use Rattle.placement.specs.Planning.{Call, Numbers, recordCount, recordsIn, disksIn, roomFor, verdict, answerFor, tablesFor}
+use Rattle.placement.specs.WellFormed.{CallWellFormed}
 use Rattle.placement.proofs.Verdicts.{unless-planned, both-true}
 use Rattle.placement.proofs.Bounds.{call-wellFormed}
 use Rattle.placement.proofs.ByFilm.{byFilm-length}
@@ -51,19 +52,6 @@ module _ (c : Call) (t : Tables) (e : verdict c t ≡ planned) where
       lefts : recordCount c ≤ min (length (t .leftFilms)) (length (t .leftAmounts))
       lefts = leb-true (recordCount c) (leftPlaces t) (behind .1)
 
--- What the steps of planning leave in the slices and answer, where `first` is the list at first and `last` the list at last.
-pub record Steps (c : Call) (t : Tables) (first last : List Item) (exit : Tables) (s u n : ℕ) : Type 0 where
-  pub built : first ≡ listOf (recordsIn c)
-  pub remains : last ≡ remaining (disksIn c) first
-  pub films : exit .films ≡ written (places filmOf (disksIn c) (placement (disksIn c) first)) (t .films)
-  pub viewers : exit .viewers ≡ written (places amountOf (disksIn c) (placement (disksIn c) first)) (t .viewers)
-  pub counts : exit .counts ≡ written (map length (placement (disksIn c) first)) (t .counts)
-  pub leftFilms : exit .leftFilms ≡ written (padded (recordCount c) (map filmOf (byFilm last))) (t .leftFilms)
-  pub leftAmounts : exit .leftAmounts ≡ written (padded (recordCount c) (map amountOf (byFilm last))) (t .leftAmounts)
-  pub serves : s ≡ served (placement (disksIn c) first)
-  pub lacks : u ≡ total last
-  pub count : n ≡ length last
-
 -- Tables with the same five lists are the same.
 pub tables-same :
     {f f' v v' c c' lf lf' la la' : List ℕ} → f ≡ f' → v ≡ v' → c ≡ c' → lf ≡ lf' → la ≡ la'
@@ -72,21 +60,34 @@ tables-same {f} {f'} {v} {v'} {c} {c'} {lf} {lf'} {la} {la'} p q r s u =
     ap₂ (λ (x y : List ℕ). tables x y c lf la) p q ∙ ap₂ (λ (x y : List ℕ). tables f' v' x y la) r s
     ∙ ap (λ (x : List ℕ). tables f' v' c' lf' x) u
 
-module _ (c : Call) (t : Tables) (first last : List Item) (exit : Tables) (s u n : ℕ) (steps : Steps c t first last exit s u n) where
-  -- The list at last is what remains of the records' list.
+-- The lists that planning goes through: the records' list, and what remains of it after all disks.
+module _ (c : Call) {first last : List Item} (built : first ≡ listOf (recordsIn c)) (remains : last ≡ remaining (disksIn c) first) where
   last-remains : last ≡ remaining (disksIn c) (listOf (recordsIn c))
-  last-remains = steps .remains ∙ ap (remaining (disksIn c)) (steps .built)
+  last-remains = remains ∙ ap (remaining (disksIn c)) built
 
-  -- They leave the plan of the call in the tables.
-  pub steps-tables : exit ≡ tablesFor c t planned
-  steps-tables =
-      tables-same (steps .films) (steps .viewers) (steps .counts) (steps .leftFilms) (steps .leftAmounts)
-      ∙ ap₂ (λ (f l : List Item). holding (disksIn c) (recordCount c) (placement (disksIn c) f) (byFilm l) t) (steps .built) last-remains
+  -- What is left in the end fits 32 bits in sum.
+  pub left-small : CallWellFormed c → total last < 4294967296
+  left-small formed = omega (arith, formed .unservedMost, ap total last-remains)
 
-  -- They answer its numbers.
-  pub steps-numbers : numbersOfPlan s u n ≡ answerFor c planned
-  steps-numbers =
-      ap₂ (λ (a b : ℕ). numbersOfPlan a b n) (steps .serves ∙ ap (λ (f : List Item). served (placement (disksIn c) f)) (steps .built))
-      (steps .lacks ∙ ap total last-remains)
+  -- Slices that hold the steps' results hold the plan of the call.
+  pub steps-tables :
+      (exit t : Tables)
+      → exit .films ≡ written (places filmOf (disksIn c) (placement (disksIn c) first)) (t .films)
+      → exit .viewers ≡ written (places amountOf (disksIn c) (placement (disksIn c) first)) (t .viewers)
+      → exit .counts ≡ written (map length (placement (disksIn c) first)) (t .counts)
+      → exit .leftFilms ≡ written (padded (recordCount c) (map filmOf (byFilm last))) (t .leftFilms)
+      → exit .leftAmounts ≡ written (padded (recordCount c) (map amountOf (byFilm last))) (t .leftAmounts)
+      → exit ≡ tablesFor c t planned
+  steps-tables exit t films viewers counts leftFilms leftAmounts =
+      tables-same films viewers counts leftFilms leftAmounts
+      ∙ ap₂ (λ (f l : List Item). holding (disksIn c) (recordCount c) (placement (disksIn c) f) (byFilm l) t) built last-remains
+
+  -- The steps' numbers are the numbers of the plan.
+  pub steps-numbers :
+      {s u n : ℕ} → s ≡ served (placement (disksIn c) first) → u ≡ total last → n ≡ length last
+      → numbersOfPlan s u n ≡ answerFor c planned
+  steps-numbers {s} {u} {n} serves lacks count =
+      ap₂ (λ (a b : ℕ). numbersOfPlan a b n) (serves ∙ ap (λ (f : List Item). served (placement (disksIn c) f)) built)
+      (lacks ∙ ap total last-remains)
       ∙ ap (λ (m : ℕ). numbersOfPlan (served (placement (disksIn c) (listOf (recordsIn c)))) (unserved (disksIn c) (listOf (recordsIn c))) m)
-      (steps .count ∙ ap length last-remains ∙ sym (byFilm-length (remaining (disksIn c) (listOf (recordsIn c)))))
+      (count ∙ ap length last-remains ∙ sym (byFilm-length (remaining (disksIn c) (listOf (recordsIn c)))))
