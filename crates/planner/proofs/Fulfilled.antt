@@ -1,18 +1,18 @@
 -- A call that is not refused has its places, and the steps of planning give its plan.
-use mathlib.Core.Path.{_≡_, refl, sym, ap, ap₂, _∙_}
+use mathlib.Core.Path.{_≡_, sym, ap, ap₂, _∙_}
 use mathlib.Core.Bool.{true, _&&_}
 use mathlib.Core.List.{List, [], map}
 use Prim.Native.Nat.{ℕ, _*_, _%_, _≤_, _<_, min}
 use native.Mathlib.Omega.{arith}
 use borrow.Author.Tests.{leb-true}
 use lib.Dec.{leb, eqb}
-use lib.ListN.{length, length-map, length-take}
+use lib.ListN.{length}
 use Rattle.placement.specs.Items.{Item, total, filmOf, amountOf, listOf, byFilm}
-use Rattle.placement.specs.Rack.{Disk, rackAccepted, mostRecords}
-use Rattle.placement.specs.Records.{Verdict, planned, refused, unless, judgeRecords}
+use Rattle.placement.specs.Rack.{rackAccepted, mostRecords}
+use Rattle.placement.specs.Records.{planned, judgeRecords}
 use Rattle.placement.specs.Method.{placement, remaining, served, unserved}
 use Rattle.placement.specs.Tables.{Tables, tables, copyPlaces, leftPlaces, padded, written, places, holding}
-use Rattle.placement.specs.Planning.{Call, Numbers, recordCount, recordsIn, disksIn, roomFor, verdict, answerFor, tablesFor}
+use Rattle.placement.specs.Planning.{Call, recordCount, recordsIn, disksIn, roomFor, verdict, answerFor, tablesFor}
 use Rattle.placement.specs.WellFormed.{CallWellFormed}
 use Rattle.placement.proofs.Verdicts.{unless-planned, both-true}
 use Rattle.placement.proofs.Bounds.{call-wellFormed}

@@ -59,5 +59,14 @@ pub(crate) fn fill_tables(
     ensures { λ _. ⌜ tables (now (films .exit)) (now (viewers .exit)) (now (counts .exit)) (now (leftfilms .exit)) (now (leftamounts .exit)) ≡ tablesFor (callOf (rack .disks) (rack .slots .0) (rack .streams .0) (now (list .entry))) (tables (now (films .entry)) (now (viewers .entry)) (now (counts .entry)) (now (leftfilms .entry)) (now (leftamounts .entry))) planned ⌝ }
 {
     let mut keys = [0; 1024];
-    fill_with(rack, list, films, viewers, counts, leftfilms, leftamounts, &mut keys)
+    fill_with(
+        rack,
+        list,
+        films,
+        viewers,
+        counts,
+        leftfilms,
+        leftamounts,
+        &mut keys,
+    )
 }

@@ -1,7 +1,7 @@
 // Planning: the bytes of a demand list to the lent tables, in steps of one module each.
 mod build; // build.rt: the list of the method from the records
-mod fulfil; // fulfil.rt: the plan of a list that is not refused
 mod fill; // fill.rt: one disk filled, and all disks
+mod fulfil; // fulfil.rt: the plan of a list that is not refused
 mod judge; // judge.rt: the refusals of planning
 mod key; // key.rt: the two parts of a key
 mod left; // left.rt: the left table
@@ -56,7 +56,12 @@ pub fn plan(
         leftfilms.len(),
         leftamounts.len(),
     );
-    let Answer::Planned { served: _, unserved: _, left: _ } = judged else {
+    let Answer::Planned {
+        served: _,
+        unserved: _,
+        left: _,
+    } = judged
+    else {
         return judged;
     };
     fill_tables(rack, list, films, viewers, counts, leftfilms, leftamounts)

@@ -46,8 +46,7 @@ store-left-requires c κs =
     let called = callOf (start .args .rack .disks) (start .args .rack .slots .0) (start .args .rack .streams .0) (start .args .list .now) in
     let built = c .before .before .before .before .before .before .before .before .before .before .before .before .before .before .before .before .before .before .before .before .before .build in
     let filled = c .before .before .before .before .before .before .before .before .before .before .before .fill-all in
-    let few = left-few _ (p .formed) (built .ensures .1) (filled .ensures .1 .1 .1 .0 .1) in
-    (
+    let few = left-few _ (p .formed) (built .ensures .1) (filled .ensures .1 .1 .1 .0 .1) in (
       (omega (arith, few .1, start .pre .1), left-small called (built .ensures .0) (filled .ensures .1 .1 .1 .0 .0) (p .formed)),
       (few, (p .leftFilms, p .leftAmounts)),
     )
@@ -83,8 +82,7 @@ returns c =
     let built = c .before .before .before .before .before .before .before .before .before .before .before .before .before .before .before .before .before .before .before .before .before .before .before .before .before .before .build in
     let filled = c .before .before .before .before .before .before .before .before .before .before .before .before .before .before .before .before .fill-all in
     let stored = c .before .before .before .before .store-left in
-    let few = left-few _ (start .pre .0 .formed) (built .ensures .1) (filled .ensures .1 .1 .1 .0 .1) in
-    (
+    let few = left-few _ (start .pre .0 .formed) (built .ensures .1) (filled .ensures .1 .1 .1 .0 .1) in (
       steps-numbers called (built .ensures .0) (filled .ensures .1 .1 .1 .0 .0) (filled .ensures .1 .1 .1 .1) (stored .ensures .1 .1)
           (sym (length-itemsOf _ _ (omega (arith, few .1, start .pre .1)))),
       steps-tables called (built .ensures .0) (filled .ensures .1 .1 .1 .0 .0) _
