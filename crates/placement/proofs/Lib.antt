@@ -1,3 +1,4 @@
+pub mod CasesHold
 pub mod Tests
 pub mod Sums
 pub mod Windows
@@ -10,7 +11,6 @@ pub mod LargeLists
 pub mod Share
 pub mod Served
 pub mod Square
-pub mod CasesHold
 pub mod Films
 pub mod FilmSets
 pub mod Layouts
@@ -18,3 +18,11 @@ pub mod Listed
 pub mod ClosedSet
 pub mod BestSharing
 pub mod Demand3
+pub mod Each
+pub mod Verdicts
+pub mod Calls
+pub mod Entries
+pub mod ByFilm
+pub mod WindowSums
+pub mod WellFormed
+pub mod Bounds

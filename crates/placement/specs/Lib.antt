@@ -8,4 +8,5 @@ pub mod Records
 pub mod Tables
 pub mod Planning
 pub mod Promise
+pub mod WellFormed
 pub mod Cases

@@ -1,9 +1,16 @@
 pub mod Cuts
 pub mod Places
+pub mod Judging
+pub mod Seen
+pub mod Checking
+pub mod Refusals
+pub mod Building
 pub mod Runs
 pub mod Search
 pub mod Overwrite
 pub mod Copies
+pub mod LeftFilms
+pub mod Answered
 pub mod Stored
 pub mod DiskRun
 pub mod LastDisk

@@ -1,3 +1,5 @@
 pub mod Keys
+pub mod Answers
+pub mod Verdicts
 pub mod Search
 pub mod Copies
