@@ -71,21 +71,21 @@ cast-result : tie.Need-cast-result
 cast-result c =
     let at-start = c .before .before .before .before .before in
     let e : c .before .amount .result ≡ _ = early (at-start .args .keys .now) (at-start .args .start) (at-start .args .size) (at-start .args .over) (at-start .args .place) (at-start .pre .0)
-    (c .before .amount .result) (c .before .amount .ensures .0) (c .if2 .taken) in
+    (c .before .amount .result) (c .before .amount .ensures .0) (omega arith) in
     omega (arith, e, small (at-start .args .keys .now) (at-start .args .start) (at-start .args .size) (at-start .args .over) (at-start .args .place) (at-start .pre .0) (at-start .pre .1 .1))
 
 returns-2 : tie.Need-returns-2
 returns-2 c =
     let at-start = c .before .before .before .before .before in
     early (at-start .args .keys .now) (at-start .args .start) (at-start .args .size) (at-start .args .over) (at-start .args .place) (at-start .pre .0)
-    (c .before .amount .result) (c .before .amount .ensures .0) (c .if2 .taken)
+    (c .before .amount .result) (c .before .amount .ensures .0) (omega arith)
 
 sub-result : tie.Need-sub-result
 sub-result c =
     let at-start = c .before .before .before .before .before in
     last-over (at-start .args .keys .now) (at-start .args .start) (at-start .args .size) (at-start .args .over) (at-start .args .place) (at-start .pre .0)
     (c .before .amount .result) (c .before .amount .ensures .0) (at-start .pre .1 .0)
-    (c .before .before .before .if1 .left) (c .if2 .left)
+    (omega arith) (omega arith)
 
 cast-result-2 : tie.Need-cast-result-2
 cast-result-2 c =
@@ -93,7 +93,7 @@ cast-result-2 c =
     omega (
       arith,
       last (at-start .args .keys .now) (at-start .args .start) (at-start .args .size) (at-start .args .over) (at-start .args .place) (at-start .pre .0)
-          (c .before .amount .result) (c .before .amount .ensures .0) (c .before .before .before .if1 .left) (c .if2 .left),
+          (c .before .amount .result) (c .before .amount .ensures .0) (omega arith) (omega arith),
       small (at-start .args .keys .now) (at-start .args .start) (at-start .args .size) (at-start .args .over) (at-start .args .place) (at-start .pre .0) (at-start .pre .1 .1),
     )
 
@@ -101,7 +101,7 @@ returns-3 : tie.Need-returns-3
 returns-3 c =
     let at-start = c .before .before .before .before .before in
     last (at-start .args .keys .now) (at-start .args .start) (at-start .args .size) (at-start .args .over) (at-start .args .place) (at-start .pre .0)
-    (c .before .amount .result) (c .before .amount .ensures .0) (c .before .before .before .if1 .left) (c .if2 .left)
+    (c .before .amount .result) (c .before .amount .ensures .0) (omega arith) (omega arith)
 
 pub viewers-at-spec : {M : Type 1} → statement M
 viewers-at-spec =

@@ -3,6 +3,7 @@ use mathlib.Core.Path.{_≡_, sym, ap, _∙_}
 use mathlib.Core.Bool.{Bool, cond}
 use mathlib.Core.List.{List}
 use Prim.Native.Nat.{ℕ, _≤_, _<_}
+use native.Mathlib.Omega.{arith}
 use borrow.Author.Needs.{needs}
 use borrow.Author.Tests.{le-leb, lt-leb}
 use lib.Dec.{leb}
@@ -55,7 +56,7 @@ returns c =
     let at-start = at-opening .before .before in
     let opened = at-opening .opening .ensures in (
       opening-found (at-start .args .slots) (at-start .args .load) (itemsOf (at-start .args .keys .now) (at-start .args .n))
-          (at-opening .opening .result .count) (at-opening .opening .result .sum) opened (c .if1 .taken),
+          (at-opening .opening .result .count) (at-opening .opening .result .sum) opened (omega arith),
       opened .sums,
     )
 
@@ -65,8 +66,8 @@ slide-requires c κs =
     let at-start = at-opening .before .before in
     let first : at-opening .opening .result .sum ≡ total (take (at-start .args .slots) (itemsOf (at-start .args .keys .now) (at-start .args .n))) =
     first-sum (at-start .args .slots) (at-start .args .load) (itemsOf (at-start .args .keys .now) (at-start .args .n))
-    (at-opening .opening .result .count) (at-opening .opening .result .sum) (at-opening .opening .ensures) (c .if1 .left) in
-    ((at-start .pre .0 .0, at-start .pre .0 .1, at-start .pre .1 .1), (first, c .if1 .left))
+    (at-opening .opening .result .count) (at-opening .opening .result .sum) (at-opening .opening .ensures) (omega arith) in
+    ((at-start .pre .0 .0, at-start .pre .0 .1, at-start .pre .1 .1), (first, omega arith))
 
 returns-2 : tie.Need-returns-2
 returns-2 c =
@@ -75,7 +76,7 @@ returns-2 c =
       slide-found (at-start .args .slots) (at-start .args .load) (itemsOf (at-start .args .keys .now) (at-start .args .n))
           (at-opening .opening .result .count) (at-opening .opening .result .sum) (at-opening .opening .ensures) (at-start .args .n)
           (window (c .slide .result .start) (c .slide .result .size))
-          (length-itemsOf (at-start .args .keys .now) (at-start .args .n) (at-start .pre .0 .0)) (c .before .if1 .left) (c .slide .ensures .0),
+          (length-itemsOf (at-start .args .keys .now) (at-start .args .n) (at-start .pre .0 .0)) (omega arith) (c .slide .ensures .0),
       c .slide .ensures .1,
     )
 

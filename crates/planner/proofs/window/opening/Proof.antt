@@ -1,5 +1,6 @@
 -- `planner::window::opening` meets its contract. The invariant: the films so far sum to less than the load, and the search goes on behind them.
 use Prim.Native.Nat.{_-_}
+use native.Mathlib.Omega.{arith}
 use borrow.Author.Needs.{needs}
 use Rattle.planner.proofs.Openings.{OpeningsPassed, openings-begin, openings-end, openings-pass, openings-find}
 use Rattle.planner.proofs.window.opening.Statement.{statement}
@@ -40,7 +41,7 @@ returns c =
     let at-loop = at-turn .before in
     let at-start = at-loop .before .before .before in
     openings-find (at-start .pre .0) (at-loop .loop .inv)
-    (c .before .amount .ensures .0) (at-turn .loop-test .taken) (c .if1 .taken)
+    (c .before .amount .ensures .0) (omega arith) (omega arith)
 
 loop-less : tie.Need-loop-less Inv-loop μ-loop
 loop-less c = search needs
@@ -51,13 +52,13 @@ loop-again c =
     let at-loop = at-turn .before in
     let at-start = at-loop .before .before .before in
     openings-pass (at-start .pre .0) (at-loop .loop .inv)
-    (c .before .amount .ensures .0) (at-turn .loop-test .taken) (c .if1 .left)
+    (c .before .amount .ensures .0) (omega arith) (omega arith)
 
 returns-2 : tie.Need-returns-2 Inv-loop μ-loop
 returns-2 c =
     let at-loop = c .before in
     let at-start = at-loop .before .before .before in
-    openings-end (at-start .pre .0) (at-loop .loop .inv) (c .loop-test .left)
+    openings-end (at-start .pre .0) (at-loop .loop .inv) (omega arith)
 
 pub opening-spec : {M : Type 1} → statement M
 opening-spec =

@@ -38,7 +38,7 @@ sub-sum c =
     let at-start = at-loop .before .before in
     let first : getD (at-start .args .keys .now) (at-loop .loop .start) 0 / 65536 ≤ at-loop .loop .sum =
     slides-first (at-start .pre .0 .0) (at-loop .loop .inv) (at-start .pre .0 .1)
-    (at-turn .loop-test .taken) in
+    (omega arith) in
     omega (arith, c .amount .ensures .0)
 
 add-amount : tie.Need-add-amount Inv-loop μ-loop
@@ -65,8 +65,8 @@ returns c =
     let at-turn = at-first .before .before in
     let at-loop = at-turn .before in
     let at-start = at-loop .before .before in (
-      slides-find (at-start .pre .0 .0) (at-loop .loop .inv) (at-first .amount .ensures .0) (c .before .amount2 .ensures .0) (at-start .pre .0 .1) (at-turn .loop-test .taken) (c .if1 .taken),
-      slides-find-sum (at-start .pre .0 .0) (at-loop .loop .inv) (at-first .amount .ensures .0) (c .before .amount2 .ensures .0) (at-start .pre .0 .1) (at-turn .loop-test .taken),
+      slides-find (at-start .pre .0 .0) (at-loop .loop .inv) (at-first .amount .ensures .0) (c .before .amount2 .ensures .0) (at-start .pre .0 .1) (omega arith) (omega arith),
+      slides-find-sum (at-start .pre .0 .0) (at-loop .loop .inv) (at-first .amount .ensures .0) (c .before .amount2 .ensures .0) (at-start .pre .0 .1) (omega arith),
     )
 
 loop-less : tie.Need-loop-less Inv-loop μ-loop
@@ -78,7 +78,7 @@ loop-again c =
     let at-turn = at-first .before .before in
     let at-loop = at-turn .before in
     let at-start = at-loop .before .before in
-    slides-pass (at-start .pre .0 .0) (at-loop .loop .inv) (at-first .amount .ensures .0) (c .before .amount2 .ensures .0) (at-start .pre .0 .1) (at-turn .loop-test .taken) (c .if1 .left)
+    slides-pass (at-start .pre .0 .0) (at-loop .loop .inv) (at-first .amount .ensures .0) (c .before .amount2 .ensures .0) (at-start .pre .0 .1) (omega arith) (omega arith)
 
 sub-t19 : tie.Need-sub-t19 Inv-loop μ-loop
 sub-t19 c = search needs
@@ -87,8 +87,8 @@ returns-2 : tie.Need-returns-2 Inv-loop μ-loop
 returns-2 c =
     let at-loop = c .before in
     let at-start = at-loop .before .before in (
-      slides-end (at-start .pre .0 .0) (at-loop .loop .inv) (c .loop-test .left),
-      slides-end-sum (at-start .pre .0 .0) (at-loop .loop .inv) (c .loop-test .left),
+      slides-end (at-start .pre .0 .0) (at-loop .loop .inv) (omega arith),
+      slides-end-sum (at-start .pre .0 .0) (at-loop .loop .inv) (omega arith),
     )
 
 pub slide-spec : {M : Type 1} → statement M
