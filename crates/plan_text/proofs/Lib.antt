@@ -1,4 +1,3 @@
-pub mod NumbersHold
 pub mod ExamplesHold
 pub mod Choices
 pub mod Decimals

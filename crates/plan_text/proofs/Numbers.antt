@@ -29,6 +29,10 @@ none-faithful = record { exact = λ n h. refl; large = λ n h. h }
 pub saturated-faithful : Faithful saturated
 saturated-faithful = record { exact = λ n h. omega arith; large = λ n h. omega arith }
 
+-- A 0 is a finished number, whatever follows.
+pub number-zero : (cap : ℕ → ℕ) (r : List ℕ) → number cap (48 ∷ r) ≡ parsed 0 r
+number-zero cap r = refl
+
 digit-true : (d : ℕ) → d < 10 → isDigit (digit d) ≡ true
 digit-true d h = and-true (leb 48 (digit d)) (leb (digit d) 57) (le-leb 48 (digit d) (omega arith)) (le-leb (digit d) 57 (omega arith))
 
@@ -132,6 +136,7 @@ number-digits {cap} f (suc steps) n r s g h =
 -- The text of a number is read where no digit follows.
 pub number-complete : {cap : ℕ → ℕ} → Faithful cap → (n b : ℕ) (r : List ℕ) → n ≤ most → isDigit b ≡ false
     → number cap (decimal n ++ (b ∷ r)) ≡ parsed n (b ∷ r)
-number-complete {cap} f zero b r h other = ap (λ (t : List ℕ). number cap (t ++ (b ∷ r))) (decimal-small 0 (omega arith))
+number-complete {cap} f zero b r h other =
+    ap (λ (t : List ℕ). number cap (t ++ (b ∷ r))) (decimal-small 0 (omega arith)) ∙ number-zero cap (b ∷ r)
 number-complete f (suc n) b r h other =
     number-digits f (suc n) (suc n) (b ∷ r) (omega arith) (omega arith) h ∙ cond-false (isDigit b) _ _ other
