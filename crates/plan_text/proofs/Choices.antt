@@ -1,5 +1,5 @@
 -- Conjunctions of tests, and choices by a test that is decided.
-use mathlib.Core.Path.{_≡_, refl, ap, sym, subst}
+use mathlib.Core.Path.{_≡_, refl, ap, subst}
 use mathlib.Core.Bool.{Bool, true, false, cond, _&&_}
 
 pub false-true : {P : Type 0} → false ≡ true → P

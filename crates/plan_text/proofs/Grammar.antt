@@ -1,16 +1,15 @@
 -- One line and the rest of a text: how the laws of reading, and the rule of the refused line, carry over.
 use mathlib.Core.Path.{_≡_, refl, sym, ap, _∙_, subst}
 use mathlib.Core.Bool.{Bool, true, cond}
-use mathlib.Core.List.{List, [], _∷_, _++_, append-assoc}
+use mathlib.Core.List.{List, _∷_, _++_}
 use Prim.Native.Nat.{ℕ, zero, suc}
-use native.Mathlib.Omega.{arith}
 use Rattle.plan_text.specs.Text.{lineFeed}
 use Rattle.plan_text.specs.Accepted.{upto}
 use Rattle.plan_text.specs.Parse.{Parse, parsed, unparsed, next, byte}
-use Rattle.plan_text.specs.Reading.{Reading, whole, refusedAfter, line, joined, lineThen}
+use Rattle.plan_text.specs.Reading.{Reading, whole, refusedAfter, line, joined}
 use Rattle.plan_text.proofs.Choices.{cond-true}
-use Rattle.plan_text.proofs.Pieces.{parsed-value, parsed-rest, unparsed-parsed, next-parsed, chosen-parsed, byte-sound}
-use Rattle.plan_text.proofs.Upto.{oneLine, upto-zero, upto-line, upto-rest}
+use Rattle.plan_text.proofs.Pieces.{parsed-value, parsed-rest, next-parsed, chosen-parsed, byte-sound}
+use Rattle.plan_text.proofs.Upto.{oneLine}
 
 -- A reader of values of which some are small: what it reads is their text, and their text is read.
 pub record Body {A : Type 0} (read : List ℕ → Parse A) (text : A → List ℕ) (Small : A → Type 0) : Type 0 where

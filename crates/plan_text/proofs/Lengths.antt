@@ -1,14 +1,14 @@
 -- How long decimal numbers and lines with pairs are.
-use mathlib.Core.Path.{_≡_, refl, sym, ap, _∙_}
-use mathlib.Core.Bool.{Bool, true, _&&_}
+use mathlib.Core.Path.{_≡_, ap, _∙_}
+use mathlib.Core.Bool.{true}
 use mathlib.Core.List.{List, [], _∷_, _++_}
-use Prim.Native.Nat.{ℕ, zero, suc, _+_, _*_, _/_, _%_, _≤_, _<_}
+use Prim.Native.Nat.{ℕ, suc, _+_, _*_, _/_, _%_, _≤_, _<_}
 use native.Mathlib.Omega.{arith}
 use lib.ListN.{length, length-append}
 use Rattle.placement.specs.Items.{Item, total}
 use Rattle.placement.proofs.Tests.{by-order}
 use Rattle.plan_text.specs.Decimal.{digit, decimal}
-use Rattle.plan_text.specs.Text.{space, opened, closed, pairText, pairsText}
+use Rattle.plan_text.specs.Text.{space, closed, pairText, pairsText}
 use Rattle.plan_text.specs.Plan.{every, copyAccepted, leftFilmAccepted}
 use Rattle.plan_text.proofs.Choices.{and-left, and-right}
 use Rattle.plan_text.proofs.Decimals.{decimal-small, decimal-large}

@@ -2,7 +2,7 @@
 use mathlib.Core.Path.{_≡_, refl, sym, ap, _∙_, subst}
 use mathlib.Core.Bool.{Bool, true}
 use mathlib.Core.List.{List, [], _∷_, _++_, append-assoc}
-use Prim.Native.Nat.{ℕ, zero, suc}
+use Prim.Native.Nat.{ℕ, suc}
 use Rattle.plan_text.specs.Text.{lineFeed}
 use Rattle.plan_text.specs.Accepted.{upto}
 use Rattle.plan_text.specs.Parse.{Parse, parsed, unparsed}

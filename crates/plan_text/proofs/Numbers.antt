@@ -1,14 +1,14 @@
 -- Reading decimal numbers: what is read is the number's text, and its text is read, for numbers up to 1,000,000 and any faithful cap.
-use mathlib.Core.Path.{_≡_, refl, sym, ap, _∙_, subst}
-use mathlib.Core.Bool.{Bool, true, false, cond, _&&_}
+use mathlib.Core.Path.{_≡_, refl, sym, ap, _∙_}
+use mathlib.Core.Bool.{true, false, cond}
 use mathlib.Core.List.{List, [], _∷_, _++_, append-assoc}
-use Prim.Native.Nat.{ℕ, zero, suc, _+_, _-_, _*_, _/_, _%_, _≤_, _<_, min}
+use Prim.Native.Nat.{ℕ, zero, suc, _+_, _-_, _*_, _/_, _%_, _≤_, _<_}
 use native.Mathlib.Omega.{arith}
-use borrow.Author.Tests.{leb-true, le-leb, lt-leb, eqb-true, eqb-false, ne-eqb}
+use borrow.Author.Tests.{leb-true, le-leb, eqb-true, eqb-false, ne-eqb}
 use lib.Dec.{leb, eqb}
 use Rattle.placement.proofs.Tests.{by-test, by-order}
 use Rattle.plan_text.specs.Decimal.{digit, decimal}
-use Rattle.plan_text.specs.Parse.{Parse, parsed, unparsed, isDigit, digits, number}
+use Rattle.plan_text.specs.Parse.{parsed, unparsed, isDigit, digits, number}
 use Rattle.plan_text.specs.Capped.{saturated}
 use Rattle.plan_text.proofs.Choices.{and-left, and-right, and-true, cond-true, cond-false}
 use Rattle.plan_text.proofs.Decimals.{decimal-small, decimal-large, decimal-more}

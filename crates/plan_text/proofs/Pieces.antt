@@ -1,13 +1,12 @@
 -- Pieces of text in sequence, and what is determined: one byte, a literal.
-use mathlib.Core.Path.{_≡_, refl, sym, ap, _∙_, subst}
+use mathlib.Core.Path.{_≡_, refl, ap, _∙_, subst}
 use mathlib.Core.Bool.{Bool, true, false, cond}
 use mathlib.Core.List.{List, [], _∷_, _++_}
 use Prim.Native.Nat.{ℕ}
 use borrow.Author.Tests.{eqb-true, eq-eqb}
 use lib.Dec.{eqb}
-use Rattle.placement.proofs.Tests.{by-test}
 use Rattle.plan_text.specs.Parse.{Parse, parsed, unparsed, next, byte, literal}
-use Rattle.plan_text.proofs.Choices.{cond-true, cond-false}
+use Rattle.plan_text.proofs.Choices.{cond-true}
 
 abbrev Fails : {A : Type 0} → Parse A → Type 0
 Fails (parsed a rest) = ⊥

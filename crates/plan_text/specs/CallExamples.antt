@@ -1,6 +1,6 @@
 -- Calls of writing and reading with tables, as two tables of cases: what is asked, and what the answer, tables and space then are.
 use Prim.Native.Nat.{ℕ}
-use mathlib.Core.List.{List, [], _∷_, _++_}
+use mathlib.Core.List.{List, [], _∷_}
 use lib.ListN.{replicate}
 use Rattle.placement.specs.Tables.{Tables}
 use Rattle.plan_text.specs.ReadCall.{ReadNumbers}

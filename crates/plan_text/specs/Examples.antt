@@ -2,7 +2,7 @@
 use Prim.Native.Nat.{ℕ}
 use Prim.Native.String.{String}
 use mathlib.Core.List.{List, [], _∷_, map}
-use Rattle.placement.specs.Items.{Item, item}
+use Rattle.placement.specs.Items.{item}
 use Rattle.plan_text.specs.Ascii.{ascii}
 use Rattle.plan_text.specs.Plan.{Plan}
 use Rattle.plan_text.specs.Text.{lines}

@@ -1,5 +1,5 @@
 -- A plan's text read line by line. What is determined is compared: the disk's number, S and U.
-use Prim.Native.Nat.{ℕ, zero, suc, _+_, min}
+use Prim.Native.Nat.{ℕ, zero, suc, _+_}
 use mathlib.Core.Bool.{Bool, true, cond}
 use mathlib.Core.List.{List, [], _∷_}
 use Rattle.placement.specs.Items.{Item, total}
