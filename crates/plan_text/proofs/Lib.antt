@@ -17,3 +17,4 @@ pub mod Laws
 pub mod Lengths
 pub mod LongestText
 pub mod LongestHolds
+pub mod Formed
