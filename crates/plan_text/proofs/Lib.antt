@@ -15,6 +15,8 @@ pub mod Tails
 pub mod PlanGrammar
 pub mod Laws
 pub mod Lengths
+pub mod Formed
+pub mod Parts
 pub mod LongestText
 pub mod LongestHolds
-pub mod Formed
+pub mod ReadTables

@@ -31,6 +31,7 @@ use Rattle.plan_text.specs.Reading.{Sizes}
 use Rattle.plan_text.specs.ReadCall.{mostBytes}
 use Rattle.plan_text.proofs.Choices.{and-left, and-right}
 use Rattle.plan_text.proofs.Limits.{sizes-disks, sizes-slots, sizes-streams, disk-count, disk-copies, disk-total, left-count, left-items}
+use Rattle.plan_text.proofs.Parts.{plan-rack, plan-count, plan-disks, plan-left}
 use Rattle.plan_text.proofs.Lengths.{length-1, length-2, length-5, length-7, length-10, length-copies, length-left, total-left}
 
 length-rack : (n k l : ℕ) → n < 100 → k < 100 → l < 100000 → length (rackLine n k l) ≤ 18
@@ -102,47 +103,29 @@ text-length p e =
       arith,
       length-line (rackLine (p .disks) (p .slots) (p .streams)) (disksThen 1 (p .copies) ending),
       length-rack (p .disks) (p .slots) (p .streams) (omega (arith, fewDisks)) (omega (arith, fewSlots)) (omega (arith, fewStreams)),
-      length-disks (p .slots) (p .streams) 1 (p .copies) ending fewSlots fewStreams (omega (arith, fewDisks, count)) disks,
+      length-disks (p .slots) (p .streams) 1 (p .copies) ending fewSlots fewStreams (omega (arith, fewDisks, plan-count p e)) (plan-disks p e),
       length-line (leftLine (p .left)) (servedLine (servedOf p) (unservedOf p) ∷ []),
       length-line (servedLine (servedOf p) (unservedOf p)) [],
-      length-left (p .left) (left-items (p .left) left),
+      length-left (p .left) (left-items (p .left) (plan-left p e)),
       length-served (servedOf p) (unservedOf p)
-          (omega (arith, served-most (p .slots) (p .streams) (p .copies) fewStreams disks, fewDisks, count))
-          (omega (arith, total-left (p .left) (left-items (p .left) left), left-count (p .left) left)),
-      left-count (p .left) left,
+          (omega (arith, served-most (p .slots) (p .streams) (p .copies) fewStreams (plan-disks p e), fewDisks, plan-count p e))
+          (omega (arith, total-left (p .left) (left-items (p .left) (plan-left p e)), left-count (p .left) (plan-left p e))),
+      left-count (p .left) (plan-left p e),
       fewDisks,
-      count,
+      plan-count p e,
     )
   where
     sizes : Sizes
     sizes = record { disks = p .disks; slots = p .slots; streams = p .streams }
 
-    rack : rackAccepted (p .disks) (p .slots) (p .streams) ≡ true
-    rack = and-left (rackAccepted (p .disks) (p .slots) (p .streams)) _ e
-
-    rest : (eqb (length (p .copies)) (p .disks) && (disksAccepted (p .slots) (p .streams) (p .copies) && leftAccepted (p .left))) ≡ true
-    rest = and-right (rackAccepted (p .disks) (p .slots) (p .streams)) _ e
-
     fewDisks : p .disks ≤ 64
-    fewDisks = sizes-disks sizes rack
+    fewDisks = sizes-disks sizes (plan-rack p e)
 
     fewSlots : p .slots ≤ 32
-    fewSlots = sizes-slots sizes rack
+    fewSlots = sizes-slots sizes (plan-rack p e)
 
     fewStreams : p .streams ≤ 65535
-    fewStreams = sizes-streams sizes rack
-
-    count : length (p .copies) ≡ p .disks
-    count = eqb-true (length (p .copies)) (p .disks) (and-left (eqb (length (p .copies)) (p .disks)) _ rest)
-
-    both : (disksAccepted (p .slots) (p .streams) (p .copies) && leftAccepted (p .left)) ≡ true
-    both = and-right (eqb (length (p .copies)) (p .disks)) _ rest
-
-    disks : disksAccepted (p .slots) (p .streams) (p .copies) ≡ true
-    disks = and-left (disksAccepted (p .slots) (p .streams) (p .copies)) _ both
-
-    left : leftAccepted (p .left) ≡ true
-    left = and-right (disksAccepted (p .slots) (p .streams) (p .copies)) _ both
+    fewStreams = sizes-streams sizes (plan-rack p e)
 
     ending : List (List ℕ)
     ending = leftLine (p .left) ∷ servedLine (servedOf p) (unservedOf p) ∷ []
