@@ -1,13 +1,13 @@
 -- The tests of a plan say what a well-formed plan is in `placement`: distinct films, entries in range, ascending left films.
-use mathlib.Core.Path.{_≡_, refl, sym, ap, _∙_}
-use mathlib.Core.Bool.{true, cond}
+use mathlib.Core.Path.{_≡_, refl, ap}
+use mathlib.Core.Bool.{true}
 use mathlib.Core.List.{List, [], _∷_}
-use Prim.Native.Nat.{ℕ, zero, suc, _+_, _≤_}
+use Prim.Native.Nat.{ℕ, zero, suc, _≤_}
 use native.Mathlib.Omega.{arith}
 use borrow.Author.Tests.{leb-true, le-leb, ltb-true, lt-ltb, eqb-true, eq-eqb}
 use lib.Dec.{leb, ltb, eqb}
 use lib.ListN.{length}
-use Rattle.placement.specs.Items.{Item, total, oneIf, occurrences}
+use Rattle.placement.specs.Items.{Item, total, occurrences}
 use Rattle.placement.specs.Rack.{disk, rackOf, inRange, mostFilm, mostDemand}
 use Rattle.placement.specs.Promise.{Distinct}
 use Rattle.placement.specs.WellFormed.{Each, Entry, DiskWellFormed, DisksWellFormed, FilmsAbove}

@@ -20,3 +20,5 @@ pub mod Parts
 pub mod LongestText
 pub mod LongestHolds
 pub mod ReadTables
+pub mod Verdicts
+pub mod RoundTrip

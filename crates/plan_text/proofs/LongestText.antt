@@ -1,18 +1,15 @@
 -- The longest text of a well-formed plan has 43,885 bytes.
 use mathlib.Core.Path.{_≡_}
-use mathlib.Core.Bool.{true, _&&_}
+use mathlib.Core.Bool.{true}
 use mathlib.Core.List.{List, [], _∷_, _++_}
 use Prim.Native.Nat.{ℕ, suc, _+_, _-_, _*_, _≤_, _<_}
 use native.Mathlib.Omega.{arith}
-use borrow.Author.Tests.{eqb-true}
-use lib.Dec.{eqb}
 use lib.ListN.{length, length-append}
 use Rattle.placement.specs.Items.{Item}
 use Rattle.placement.specs.Method.{served}
-use Rattle.placement.specs.Rack.{rackAccepted}
 use Rattle.placement.proofs.Tests.{by-order}
 use Rattle.plan_text.specs.Decimal.{decimal}
-use Rattle.plan_text.specs.Plan.{Plan, diskAccepted, disksAccepted, leftAccepted, wellFormed, servedOf, unservedOf}
+use Rattle.plan_text.specs.Plan.{Plan, diskAccepted, disksAccepted, wellFormed, servedOf, unservedOf}
 use Rattle.plan_text.specs.Text.{
   space,
   closed,
