@@ -1,33 +1,27 @@
--- The tests of a plan say what a well-formed plan is in `placement`: distinct films, entries in range, ascending left films.
+-- The tests of a plan say what a well-formed plan is in `placement`: distinct films, entries in range.
 use mathlib.Core.Path.{_≡_, refl, ap}
 use mathlib.Core.Bool.{true}
 use mathlib.Core.List.{List, [], _∷_}
 use Prim.Native.Nat.{ℕ, zero, suc, _≤_}
 use native.Mathlib.Omega.{arith}
-use borrow.Author.Tests.{leb-true, le-leb, ltb-true, lt-ltb, eqb-true, eq-eqb}
-use lib.Dec.{leb, ltb, eqb}
+use borrow.Author.Tests.{leb-true, le-leb, eqb-true, eq-eqb}
+use lib.Dec.{leb, eqb}
 use lib.ListN.{length}
 use Rattle.placement.specs.Items.{Item, total, occurrences}
-use Rattle.placement.specs.Rack.{disk, rackOf, inRange, mostFilm, mostDemand}
+use Rattle.placement.specs.Rack.{disk, rackOf, inRange, mostFilm}
 use Rattle.placement.specs.Promise.{Distinct}
-use Rattle.placement.specs.WellFormed.{Each, Entry, DiskWellFormed, DisksWellFormed, FilmsAbove}
+use Rattle.placement.specs.WellFormed.{Each, Entry, DiskWellFormed, DisksWellFormed}
 use Rattle.placement.proofs.Tests.{by-test}
-use Rattle.plan_text.specs.Plan.{
-  every,
-  distinctFilms,
-  copyAccepted,
-  diskAccepted,
-  disksAccepted,
-  ascendingAbove,
-  leftFilmAccepted,
-}
+use Rattle.plan_text.specs.Plan.{every, distinctFilms, copyAccepted, diskAccepted, disksAccepted}
 use Rattle.plan_text.proofs.Choices.{and-left, and-right, and-true, cond-true, cond-false}
 use Rattle.plan_text.proofs.Limits.{range-most, disk-count, disk-copies, disk-total}
 
-range-least : (limit n : ℕ) → inRange limit n ≡ true → 1 ≤ n
+-- A number in range is at least 1.
+pub range-least : (limit n : ℕ) → inRange limit n ≡ true → 1 ≤ n
 range-least limit n e = leb-true 1 n (and-left (leb 1 n) (leb n limit) e)
 
-range-true : (limit n : ℕ) → 1 ≤ n → n ≤ limit → inRange limit n ≡ true
+-- A number from 1 to the limit is in range.
+pub range-true : (limit n : ℕ) → 1 ≤ n → n ≤ limit → inRange limit n ≡ true
 range-true limit n g h = and-true (leb 1 n) (leb n limit) (le-leb 1 n g) (le-leb n limit h)
 
 -- The test of distinct films says that no film stands twice.
@@ -42,6 +36,7 @@ distinct-true (x ∷ xs) e f =
     (λ other.
     omega (arith, cond-false {A = ℕ} (eqb f (x .film)) 1 0 other, distinct-true xs (and-right (eqb (occurrences (x .film) xs) 0) (distinctFilms xs) e) f))
 
+-- Films of which none stands twice pass the test.
 pub true-distinct : (xs : List Item) → Distinct xs → distinctFilms xs ≡ true
 true-distinct [] d = refl
 true-distinct (x ∷ xs) d =
@@ -65,6 +60,7 @@ copies-true l (x ∷ xs) e h =
       copies-true l xs (and-right (copyAccepted x) (every copyAccepted xs) e) (omega arith),
     )
 
+-- Entries pass the test of copies.
 true-copies : (l : ℕ) (xs : List Item) → Each (Entry l) xs → every copyAccepted xs ≡ true
 true-copies l [] each = refl
 true-copies l (x ∷ xs) each =
@@ -82,12 +78,14 @@ disk-true k l xs e = record {
   load = disk-total k l xs e;
 }
 
+-- A well-formed disk passes its test.
 pub true-disk : (k l : ℕ) (xs : List Item) → DiskWellFormed (disk k l) xs → diskAccepted k l xs ≡ true
 true-disk k l xs formed =
     and-true (leb (length xs) k) _ (le-leb (length xs) k (formed .slots))
     (and-true (distinctFilms xs) _ (true-distinct xs (formed .distinct))
     (and-true (every copyAccepted xs) _ (true-copies l xs (formed .entries)) (le-leb (total xs) l (formed .load))))
 
+-- Accepted disks are well formed, one by one.
 pub disks-true : (n k l : ℕ) (copies : List (List Item)) → length copies ≡ n → disksAccepted k l copies ≡ true → DisksWellFormed (rackOf n k l) copies
 disks-true zero k l [] h e = tt
 disks-true zero k l (xs ∷ copies) h e = absurd (omega arith)
@@ -97,46 +95,10 @@ disks-true (suc n) k l (xs ∷ copies) h e = (
   disks-true n k l copies (omega arith) (and-right (diskAccepted k l xs) (disksAccepted k l copies) e),
 )
 
+-- Well-formed disks are accepted.
 pub true-disks : (n k l : ℕ) (copies : List (List Item)) → DisksWellFormed (rackOf n k l) copies → disksAccepted k l copies ≡ true
 true-disks zero k l [] formed = refl
 true-disks zero k l (xs ∷ copies) formed = absurd formed
 true-disks (suc n) k l [] formed = absurd formed
 true-disks (suc n) k l (xs ∷ copies) formed =
     and-true (diskAccepted k l xs) (disksAccepted k l copies) (true-disk k l xs (formed .0)) (true-disks n k l copies (formed .1))
-
--- The tests of the left films.
-pub ascending-true : (f : ℕ) (xs : List Item) → ascendingAbove f xs ≡ true → FilmsAbove f xs
-ascending-true f [] e = tt
-ascending-true f (x ∷ xs) e = (
-  ltb-true f (x .film) (and-left (ltb f (x .film)) (ascendingAbove (x .film) xs) e),
-  ascending-true (x .film) xs (and-right (ltb f (x .film)) (ascendingAbove (x .film) xs) e),
-)
-
-pub true-ascending : (f : ℕ) (xs : List Item) → FilmsAbove f xs → ascendingAbove f xs ≡ true
-true-ascending f [] above = refl
-true-ascending f (x ∷ xs) above =
-    and-true (ltb f (x .film)) (ascendingAbove (x .film) xs) (lt-ltb f (x .film) (above .0)) (true-ascending (x .film) xs (above .1))
-
-pub left-true : (xs : List Item) → every leftFilmAccepted xs ≡ true → Each (Entry mostDemand) xs
-left-true [] e = tt
-left-true (x ∷ xs) e =
-    let here = and-left (leftFilmAccepted x) (every leftFilmAccepted xs) e in
-    let film = and-left (inRange mostFilm (x .film)) (inRange mostDemand (x .amount)) here in
-    let amount = and-right (inRange mostFilm (x .film)) (inRange mostDemand (x .amount)) here in (
-      record {
-        filmLeast = range-least mostFilm (x .film) film;
-        filmMost = range-most mostFilm (x .film) film;
-        amountLeast = range-least mostDemand (x .amount) amount;
-        amountMost = range-most mostDemand (x .amount) amount;
-      },
-      left-true xs (and-right (leftFilmAccepted x) (every leftFilmAccepted xs) e),
-    )
-
-pub true-left : (xs : List Item) → Each (Entry mostDemand) xs → every leftFilmAccepted xs ≡ true
-true-left [] each = refl
-true-left (x ∷ xs) each =
-    and-true (leftFilmAccepted x) (every leftFilmAccepted xs)
-    (and-true (inRange mostFilm (x .film)) (inRange mostDemand (x .amount))
-    (range-true mostFilm (x .film) (each .0 .filmLeast) (each .0 .filmMost))
-    (range-true mostDemand (x .amount) (each .0 .amountLeast) (each .0 .amountMost)))
-    (true-left xs (each .1))

@@ -62,6 +62,7 @@ pub record Joins {A B C : Type 0} (test : A → Bool) (textA : A → List ℕ) (
   pub split : (c : C) → okC c ≡ true → (a : A) × (b : B) × (test a ≡ true) × (okB a b ≡ true) × (join a b ≡ c)
   pub text : (a : A) (b : B) → test a ≡ true → textC (join a b) ≡ textA a ++ (lineFeed ∷ textB a b)
 
+-- The parts of a reading.
 abbrev lineCount : {B : Type 0} → Reading B → ℕ
 lineCount (whole b) = zero
 lineCount (refusedAfter n) = n
@@ -74,20 +75,25 @@ abbrev IsWhole : {B : Type 0} → Reading B → Type 0
 IsWhole (whole b) = Unit {0}
 IsWhole (refusedAfter n) = ⊥
 
+-- A text is not both read and refused.
 pub whole-refused : {B P : Type 0} {b : B} {n : ℕ} → whole b ≡ refusedAfter n → P
 whole-refused e = absurd (subst IsWhole e tt)
 
+-- Equal readings have equal values.
 pub whole-value : {B : Type 0} {a b : B} → whole a ≡ whole b → a ≡ b
 whole-value {a} e = ap (wholeOr a) e
 
+-- Equal refusals are after equally many lines.
 pub refused-count : {B : Type 0} {n m : ℕ} → _≡_ {A = Reading B} (refusedAfter n) (refusedAfter m) → n ≡ m
 refused-count e = ap lineCount e
 
+-- The whole was read where the rest was.
 pub joined-whole : {B C P : Type 0} {c : C} (join : B → C) (r : Reading B) → joined join r ≡ whole c
     → ((b : B) → r ≡ whole b → join b ≡ c → P) → P
 joined-whole join (whole b) e goal = goal b refl (whole-value e)
 joined-whole join (refusedAfter n) e goal = whole-refused (sym e)
 
+-- The whole is refused one line later than the rest.
 pub joined-refused : {B C P : Type 0} {n : ℕ} (join : B → C) (r : Reading B) → joined join r ≡ refusedAfter n
     → ((m : ℕ) → r ≡ refusedAfter m → suc m ≡ n → P) → P
 joined-refused join (whole b) e goal = whole-refused e

@@ -64,6 +64,7 @@ read-refused t n e = refusedWith none-faithful t n e
 pub accepted-refused : (t : List ℕ) (n : ℕ) → Accepted t → RefusedAfter t n → ⊥
 accepted-refused t n a r = r .ended t a refl
 
+-- No refused line comes after another.
 refused-least : (t : List ℕ) (n m : ℕ) → RefusedAfter t n → RefusedAfter t m → m ≤ n
 refused-least t n m r s =
     by-order n m

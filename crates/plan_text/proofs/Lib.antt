@@ -16,6 +16,7 @@ pub mod PlanGrammar
 pub mod Laws
 pub mod Lengths
 pub mod Formed
+pub mod FormedLeft
 pub mod Parts
 pub mod LongestText
 pub mod LongestHolds

@@ -18,6 +18,7 @@ module _ {A B C : Type 0} {test : A → Bool} {textA : A → List ℕ} {okB : A 
   abbrev readC : List ℕ → Reading C
   readC t = lineThen join (readA t) readB
 
+  -- Each law of the whole, from those of the line and the rest.
   then-complete : (c : C) → okC c ≡ true → readC (textC c) ≡ whole c
   then-complete c ok = go (joins .split c ok)
     where

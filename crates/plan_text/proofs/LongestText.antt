@@ -31,6 +31,7 @@ use Rattle.plan_text.proofs.Limits.{sizes-disks, sizes-slots, sizes-str
 use Rattle.plan_text.proofs.Parts.{plan-rack, plan-count, plan-disks, plan-left}
 use Rattle.plan_text.proofs.Lengths.{length-1, length-2, length-5, length-7, length-10, length-copies, length-left, total-left}
 
+-- The rack's line has at most 18 bytes.
 length-rack : (n k l : ℕ) → n < 100 → k < 100 → l < 100000 → length (rackLine n k l) ≤ 18
 length-rack n k l g h i =
     omega (
@@ -55,6 +56,7 @@ length-disk k l number xs g h e =
       disk-total k l xs e,
     )
 
+-- A line, its line feed and the lines after it.
 length-line : (line : List ℕ) (rest : List (List ℕ)) → length (lines (line ∷ rest)) ≡ length line + suc (length (lines rest))
 length-line line rest = length-append line (lineFeed ∷ lines rest)
 
@@ -73,6 +75,7 @@ length-disks k l number (xs ∷ copies) after g h i e =
     (λ less. omega (arith, length-1 number less, length-line (diskLine number xs) (disksThen (suc number) copies after)))
     (λ more. omega (arith, length-2 number (omega arith), length-line (diskLine number xs) (disksThen (suc number) copies after)))
 
+-- Disks of load at most 65,535 serve at most that many each.
 served-most : (k l : ℕ) (copies : List (List Item)) → l ≤ 65535 → disksAccepted k l copies ≡ true → served copies ≤ 65535 * length copies
 served-most k l [] h e = omega arith
 served-most k l (xs ∷ copies) h e =
@@ -82,6 +85,7 @@ served-most k l (xs ∷ copies) h e =
       served-most k l copies h (and-right (diskAccepted k l xs) (disksAccepted k l copies) e),
     )
 
+-- The served line has at most 27 bytes.
 length-served : (s u : ℕ) → s < 10000000 → u < 10000000000 → length (servedLine s u) ≤ 27
 length-served s u g h =
     omega (

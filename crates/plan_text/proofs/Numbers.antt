@@ -23,6 +23,7 @@ pub record Faithful (cap : ℕ → ℕ) : Type 0 where
   pub exact : (n : ℕ) → n ≤ most → cap n ≡ n
   pub large : (n : ℕ) → most < n → most < cap n
 
+-- No cap, and the cap 2³² − 1, are faithful.
 pub none-faithful : Faithful (λ n. n)
 none-faithful = record { exact = λ n h. refl; large = λ n h. h }
 
@@ -33,6 +34,7 @@ saturated-faithful = record { exact = λ n h. omega arith; large = λ n h. omega
 pub number-zero : (cap : ℕ → ℕ) (r : List ℕ) → number cap (48 ∷ r) ≡ parsed 0 r
 number-zero cap r = refl
 
+-- The bytes of digits are 48 to 57.
 digit-true : (d : ℕ) → d < 10 → isDigit (digit d) ≡ true
 digit-true d h = and-true (leb 48 (digit d)) (leb (digit d) 57) (le-leb 48 (digit d) (omega arith)) (le-leb (digit d) 57 (omega arith))
 

@@ -11,13 +11,15 @@ use Rattle.placement.specs.WellFormed.{PlanWellFormed}
 use Rattle.plan_text.specs.Plan.{Plan, disksAccepted, leftAccepted, every, leftFilmAccepted, ascendingAbove, mostLeft, wellFormed}
 use Rattle.plan_text.proofs.Choices.{and-left, and-right, and-true}
 use Rattle.plan_text.proofs.Limits.{left-count, left-items}
-use Rattle.plan_text.proofs.Formed.{disks-true, true-disks, ascending-true, true-ascending, left-true, true-left}
+use Rattle.plan_text.proofs.Formed.{disks-true, true-disks}
+use Rattle.plan_text.proofs.FormedLeft.{ascending-true, true-ascending, left-true, true-left}
 
 module _ (p : Plan) (e : wellFormed p ≡ true) where
   -- The rack is accepted.
   pub plan-rack : rackAccepted (p .disks) (p .slots) (p .streams) ≡ true
   plan-rack = and-left (rackAccepted (p .disks) (p .slots) (p .streams)) _ e
 
+  -- The tests behind that of the rack.
   behind : (eqb (length (p .copies)) (p .disks) && (disksAccepted (p .slots) (p .streams) (p .copies) && leftAccepted (p .left))) ≡ true
   behind = and-right (rackAccepted (p .disks) (p .slots) (p .streams)) _ e
 

@@ -19,6 +19,7 @@ use Rattle.plan_text.specs.ReadCall.{holdingPlan}
 use Rattle.plan_text.proofs.Choices.{and-true}
 use Rattle.plan_text.proofs.Parts.{plan-true}
 
+-- A list of zeros passes the test of zeros.
 zeros-zero : (n : ℕ) → allZero (replicate n 0) ≡ true
 zeros-zero zero = refl
 zeros-zero (suc n) = zeros-zero n
@@ -36,6 +37,7 @@ unused-padded part slots xs rest =
     zeros : List ℕ
     zeros = replicate (slots - length (map part xs)) 0
 
+-- All unused places are zero after writing.
 unused-written : (disks : List Disk) (layout : List (List Item)) (films viewers counts : List ℕ) → DisksWellFormed disks layout
     → unusedZeroFrom disks (places filmOf disks layout ++ films) (places amountOf disks layout ++ viewers) (map length layout ++ counts) ≡ true
 unused-written [] [] films viewers counts fits = refl
@@ -54,6 +56,7 @@ unused-written (d ∷ ds) (copies ∷ rest) films viewers counts fits =
     (part-behind amountOf (d .slots) copies (places amountOf ds rest ++ viewers) (fits .0 .slots))
     ∙ unused-written ds rest films viewers counts (fits .1))
 
+-- The left films that were written are those held.
 left-held : (left : List Item) (films amounts : List ℕ)
     → entries (take (length left) (map filmOf left ++ films)) (take (length left) (map amountOf left ++ amounts)) ≡ left
 left-held left films amounts =

@@ -41,6 +41,7 @@ length-places part (suc n) k l (copies ∷ rest) fits =
       suc-mul n k,
     )
 
+-- A table is at least as long as what is written to it.
 length-written : (new old : List ℕ) → length new ≤ length (written new old)
 length-written new old = omega (arith, length-append new (drop (length new) old))
 
@@ -83,9 +84,11 @@ verdict-planned c room a b d e =
     ∙ ap (λ (x : Bool). ifHolds x 11 (λ u₄. planned)) e
 
 module _ (text : List ℕ) (p : Plan) (t : Tables) (room : List ℕ) (read : textVerdict text ≡ plan p) (fits : length text ≤ length room) where
+  -- The text of the tables after reading is the text that was read.
   same : textOf (planOf (callAfter p t)) ≡ text
   same = ap textOf (holding-held p t (verdict-wellFormed text p read)) ∙ verdict-same text p read
 
+  -- No refusal of writing applies to them.
   verdict : writeVerdict (callAfter p t) room ≡ planned
   verdict =
       verdict-planned (callAfter p t) room (plan-rack p (verdict-wellFormed text p read)) (room-after p t (verdict-wellFormed text p read))

@@ -15,12 +15,14 @@ abbrev pub oneLine : List ℕ → Bool
 oneLine [] = true
 oneLine (b ∷ bs) = not (eqb b lineFeed) && oneLine bs
 
+-- Two parts without a line feed make one without.
 pub oneLine-append : (xs ys : List ℕ) → oneLine xs ≡ true → oneLine ys ≡ true → oneLine (xs ++ ys) ≡ true
 oneLine-append [] ys p q = q
 oneLine-append (x ∷ xs) ys p q =
     and-true (not (eqb x lineFeed)) (oneLine (xs ++ ys)) (and-left (not (eqb x lineFeed)) (oneLine xs) p)
     (oneLine-append xs ys (and-right (not (eqb x lineFeed)) (oneLine xs) p) q)
 
+-- No lines are no bytes.
 pub upto-zero : (t : List ℕ) → upto zero t ≡ []
 upto-zero [] = refl
 upto-zero (b ∷ bs) = refl

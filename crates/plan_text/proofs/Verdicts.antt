@@ -17,6 +17,7 @@ use Rattle.plan_text.proofs.Choices.{cond-true}
 use Rattle.plan_text.proofs.Laws.{read-complete, read-wellFormed, read-text, read-refused, capped-read}
 use Rattle.plan_text.proofs.LongestText.{text-fits}
 
+-- The parts of a verdict.
 abbrev IsPlan : Verdict → Type 0
 IsPlan (plan p) = Unit {0}
 IsPlan (refused number second) = ⊥
@@ -33,6 +34,7 @@ abbrev secondOf : Verdict → ℕ
 secondOf (plan p) = 0
 secondOf (refused number second) = second
 
+-- A plan is no refusal.
 pub plan-refused : {P : Type 0} {p : Plan} {n s : ℕ} → plan p ≡ refused n s → P
 plan-refused e = absurd (subst IsPlan e tt)
 

@@ -26,6 +26,7 @@ abbrev pub literal : List ℕ → List ℕ → Parse (Unit {0})
 literal [] text = parsed tt text
 literal (expected ∷ rest) text = next (byte expected text) (λ u after. literal rest after)
 
+-- A byte from 48 to 57.
 abbrev pub isDigit : ℕ → Bool
 isDigit b = leb 48 b && leb b 57
 
