@@ -1,19 +1,20 @@
 -- How long decimal numbers and lines with pairs are.
-use mathlib.Core.Path.{_≡_, refl, sym, ap, _∙_}
-use mathlib.Core.Bool.{Bool, true, _&&_}
+use mathlib.Core.Path.{_≡_, ap, _∙_}
+use mathlib.Core.Bool.{true}
 use mathlib.Core.List.{List, [], _∷_, _++_}
-use Prim.Native.Nat.{ℕ, zero, suc, _+_, _*_, _/_, _%_, _≤_, _<_}
+use Prim.Native.Nat.{ℕ, suc, _+_, _*_, _/_, _%_, _≤_, _<_}
 use native.Mathlib.Omega.{arith}
 use lib.ListN.{length, length-append}
 use Rattle.placement.specs.Items.{Item, total}
 use Rattle.placement.proofs.Tests.{by-order}
 use Rattle.plan_text.specs.Decimal.{digit, decimal}
-use Rattle.plan_text.specs.Text.{space, opened, closed, pairText, pairsText}
+use Rattle.plan_text.specs.Text.{space, closed, pairText, pairsText}
 use Rattle.plan_text.specs.Plan.{every, copyAccepted, leftFilmAccepted}
 use Rattle.plan_text.proofs.Choices.{and-left, and-right}
 use Rattle.plan_text.proofs.Decimals.{decimal-small, decimal-large}
 use Rattle.plan_text.proofs.Limits.{copy-film, left-film, left-amount}
 
+-- A number below 10 has one digit.
 pub length-1 : (n : ℕ) → n < 10 → length (decimal n) ≤ 1
 length-1 n h = let e : length (decimal n) ≡ 1 = ap length (decimal-small n h) in omega arith
 
@@ -26,6 +27,7 @@ length-step m d fewer g n h =
     let e : length (decimal n) ≡ length (decimal (n / 10)) + 1 = ap length (decimal-large n more) ∙ length-append (decimal (n / 10)) (digit (n % 10) ∷ []) in
     omega (arith, fewer (n / 10) (omega arith)))
 
+-- A number below 10 to the d has at most d digits, for d up to 10.
 pub length-2 : (n : ℕ) → n < 100 → length (decimal n) ≤ 2
 length-2 = length-step 10 1 length-1 (omega arith)
 

@@ -1,4 +1,3 @@
-pub mod NumbersHold
 pub mod ExamplesHold
 pub mod Planned
 pub mod PlannedTables
@@ -18,5 +17,11 @@ pub mod Tails
 pub mod PlanGrammar
 pub mod Laws
 pub mod Lengths
+pub mod Formed
+pub mod FormedLeft
+pub mod Parts
 pub mod LongestText
 pub mod LongestHolds
+pub mod ReadTables
+pub mod Verdicts
+pub mod RoundTrip

@@ -2,7 +2,7 @@
 use mathlib.Core.Path.{_≡_, refl, sym, ap, _∙_, subst}
 use mathlib.Core.Bool.{Bool, true}
 use mathlib.Core.List.{List, [], _∷_, _++_, append-assoc}
-use Prim.Native.Nat.{ℕ, zero, suc}
+use Prim.Native.Nat.{ℕ, suc}
 use Rattle.plan_text.specs.Text.{lineFeed}
 use Rattle.plan_text.specs.Accepted.{upto}
 use Rattle.plan_text.specs.Parse.{Parse, parsed, unparsed}
@@ -18,6 +18,7 @@ module _ {A B C : Type 0} {test : A → Bool} {textA : A → List ℕ} {okB : A 
   abbrev readC : List ℕ → Reading C
   readC t = lineThen join (readA t) readB
 
+  -- Each law of the whole, from those of the line and the rest.
   then-complete : (c : C) → okC c ≡ true → readC (textC c) ≡ whole c
   then-complete c ok = go (joins .split c ok)
     where

@@ -1,19 +1,15 @@
 -- The longest text of a well-formed plan has 43,885 bytes.
-use mathlib.Core.Path.{_≡_, refl, sym, ap, _∙_}
-use mathlib.Core.Bool.{Bool, true, _&&_}
+use mathlib.Core.Path.{_≡_}
+use mathlib.Core.Bool.{true}
 use mathlib.Core.List.{List, [], _∷_, _++_}
-use Prim.Native.Nat.{ℕ, zero, suc, _+_, _-_, _*_, _≤_, _<_}
+use Prim.Native.Nat.{ℕ, suc, _+_, _-_, _*_, _≤_, _<_}
 use native.Mathlib.Omega.{arith}
-use borrow.Author.Tests.{eqb-true}
-use lib.Dec.{eqb}
 use lib.ListN.{length, length-append}
-use Rattle.placement.specs.Items.{Item, total}
+use Rattle.placement.specs.Items.{Item}
 use Rattle.placement.specs.Method.{served}
-use Rattle.placement.specs.Rack.{rackAccepted}
 use Rattle.placement.proofs.Tests.{by-order}
-use Rattle.plan_text.specs.Ascii.{ascii}
 use Rattle.plan_text.specs.Decimal.{decimal}
-use Rattle.plan_text.specs.Plan.{Plan, diskAccepted, disksAccepted, leftAccepted, wellFormed, servedOf, unservedOf}
+use Rattle.plan_text.specs.Plan.{Plan, diskAccepted, disksAccepted, wellFormed, servedOf, unservedOf}
 use Rattle.plan_text.specs.Text.{
   space,
   closed,
@@ -32,8 +28,10 @@ use Rattle.plan_text.specs.Reading.{Sizes}
 use Rattle.plan_text.specs.ReadCall.{mostBytes}
 use Rattle.plan_text.proofs.Choices.{and-left, and-right}
 use Rattle.plan_text.proofs.Limits.{sizes-disks, sizes-slots, sizes-streams, disk-count, disk-copies, disk-total, left-count, left-items}
+use Rattle.plan_text.proofs.Parts.{plan-rack, plan-count, plan-disks, plan-left}
 use Rattle.plan_text.proofs.Lengths.{length-1, length-2, length-5, length-7, length-10, length-copies, length-left, total-left}
 
+-- The rack's line has at most 18 bytes.
 length-rack : (n k l : ℕ) → n < 100 → k < 100 → l < 100000 → length (rackLine n k l) ≤ 18
 length-rack n k l g h i =
     omega (
@@ -58,6 +56,7 @@ length-disk k l number xs g h e =
       disk-total k l xs e,
     )
 
+-- A line, its line feed and the lines after it.
 length-line : (line : List ℕ) (rest : List (List ℕ)) → length (lines (line ∷ rest)) ≡ length line + suc (length (lines rest))
 length-line line rest = length-append line (lineFeed ∷ lines rest)
 
@@ -76,6 +75,7 @@ length-disks k l number (xs ∷ copies) after g h i e =
     (λ less. omega (arith, length-1 number less, length-line (diskLine number xs) (disksThen (suc number) copies after)))
     (λ more. omega (arith, length-2 number (omega arith), length-line (diskLine number xs) (disksThen (suc number) copies after)))
 
+-- Disks of load at most 65,535 serve at most that many each.
 served-most : (k l : ℕ) (copies : List (List Item)) → l ≤ 65535 → disksAccepted k l copies ≡ true → served copies ≤ 65535 * length copies
 served-most k l [] h e = omega arith
 served-most k l (xs ∷ copies) h e =
@@ -85,6 +85,7 @@ served-most k l (xs ∷ copies) h e =
       served-most k l copies h (and-right (diskAccepted k l xs) (disksAccepted k l copies) e),
     )
 
+-- The served line has at most 27 bytes.
 length-served : (s u : ℕ) → s < 10000000 → u < 10000000000 → length (servedLine s u) ≤ 27
 length-served s u g h =
     omega (
@@ -103,47 +104,29 @@ text-length p e =
       arith,
       length-line (rackLine (p .disks) (p .slots) (p .streams)) (disksThen 1 (p .copies) ending),
       length-rack (p .disks) (p .slots) (p .streams) (omega (arith, fewDisks)) (omega (arith, fewSlots)) (omega (arith, fewStreams)),
-      length-disks (p .slots) (p .streams) 1 (p .copies) ending fewSlots fewStreams (omega (arith, fewDisks, count)) disks,
+      length-disks (p .slots) (p .streams) 1 (p .copies) ending fewSlots fewStreams (omega (arith, fewDisks, plan-count p e)) (plan-disks p e),
       length-line (leftLine (p .left)) (servedLine (servedOf p) (unservedOf p) ∷ []),
       length-line (servedLine (servedOf p) (unservedOf p)) [],
-      length-left (p .left) (left-items (p .left) left),
+      length-left (p .left) (left-items (p .left) (plan-left p e)),
       length-served (servedOf p) (unservedOf p)
-          (omega (arith, served-most (p .slots) (p .streams) (p .copies) fewStreams disks, fewDisks, count))
-          (omega (arith, total-left (p .left) (left-items (p .left) left), left-count (p .left) left)),
-      left-count (p .left) left,
+          (omega (arith, served-most (p .slots) (p .streams) (p .copies) fewStreams (plan-disks p e), fewDisks, plan-count p e))
+          (omega (arith, total-left (p .left) (left-items (p .left) (plan-left p e)), left-count (p .left) (plan-left p e))),
+      left-count (p .left) (plan-left p e),
       fewDisks,
-      count,
+      plan-count p e,
     )
   where
     sizes : Sizes
     sizes = record { disks = p .disks; slots = p .slots; streams = p .streams }
 
-    rack : rackAccepted (p .disks) (p .slots) (p .streams) ≡ true
-    rack = and-left (rackAccepted (p .disks) (p .slots) (p .streams)) _ e
-
-    rest : (eqb (length (p .copies)) (p .disks) && (disksAccepted (p .slots) (p .streams) (p .copies) && leftAccepted (p .left))) ≡ true
-    rest = and-right (rackAccepted (p .disks) (p .slots) (p .streams)) _ e
-
     fewDisks : p .disks ≤ 64
-    fewDisks = sizes-disks sizes rack
+    fewDisks = sizes-disks sizes (plan-rack p e)
 
     fewSlots : p .slots ≤ 32
-    fewSlots = sizes-slots sizes rack
+    fewSlots = sizes-slots sizes (plan-rack p e)
 
     fewStreams : p .streams ≤ 65535
-    fewStreams = sizes-streams sizes rack
-
-    count : length (p .copies) ≡ p .disks
-    count = eqb-true (length (p .copies)) (p .disks) (and-left (eqb (length (p .copies)) (p .disks)) _ rest)
-
-    both : (disksAccepted (p .slots) (p .streams) (p .copies) && leftAccepted (p .left)) ≡ true
-    both = and-right (eqb (length (p .copies)) (p .disks)) _ rest
-
-    disks : disksAccepted (p .slots) (p .streams) (p .copies) ≡ true
-    disks = and-left (disksAccepted (p .slots) (p .streams) (p .copies)) _ both
-
-    left : leftAccepted (p .left) ≡ true
-    left = and-right (disksAccepted (p .slots) (p .streams) (p .copies)) _ both
+    fewStreams = sizes-streams sizes (plan-rack p e)
 
     ending : List (List ℕ)
     ending = leftLine (p .left) ∷ servedLine (servedOf p) (unservedOf p) ∷ []
