@@ -1,0 +1,5 @@
+// Tests of what lent tables hold: copies of a disk, left films, unused places, and sums. Every function answers for every argument.
+mod places;
+
+pub use places::all_zero;
+pub use places::total;
