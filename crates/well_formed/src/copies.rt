@@ -3,7 +3,7 @@ use crate::entry;
 use crate::places;
 ghost use mathlib.Core.Path.{_≡_};
 ghost use lib.Dec.{leb, eqb};
-ghost use lib.ListN.{length, drop};
+ghost use lib.ListN.{drop};
 ghost use Rattle.placement.specs.Items.{item, total, occurrences};
 ghost use Rattle.placement.specs.Held.{entries};
 ghost use Rattle.plan_text.specs.Plan.{copyAccepted, every, distinctFilms, diskAccepted};

@@ -1,5 +1,5 @@
 -- `well_formed::disk_accepted` meets its contract: the tests are those of `diskAccepted`, in its order.
-use mathlib.Core.Path.{_≡_, refl, sym, _∙_}
+use mathlib.Core.Path.{refl, sym, _∙_}
 use borrow.Author.Needs.{needs}
 use borrow.Author.Tests.{not-true, not-false}
 use Rattle.well_formed.proofs.Conjunction.{first-holds, first-fails}

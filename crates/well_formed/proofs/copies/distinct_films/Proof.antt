@@ -1,6 +1,6 @@
 -- `well_formed::distinct_films` meets its contract. The invariant: the copies not yet passed give the answer for all.
 use mathlib.Core.Path.{_≡_, sym, ap, _∙_}
-use Prim.Native.Nat.{_≤_, _-_}
+use Prim.Native.Nat.{_-_}
 use borrow.Author.Needs.{needs}
 use borrow.Author.Tests.{not-true, not-false}
 use lib.ListN.{drop}
@@ -12,7 +12,7 @@ use Rattle.well_formed.proofs.copies.distinct_films.Statement.{statemen
 use Rattle.well_formed.proofs.copies.distinct_films.Tie as tie
 
 abbrev Inv-loop : tie.InvT-loop
-Inv-loop films viewers n i₀ i = (i ≤ n) × (distinctFilms (entries films viewers) ≡ distinctFilms (drop i (entries films viewers)))
+Inv-loop films viewers n i₀ i = distinctFilms (entries films viewers) ≡ distinctFilms (drop i (entries films viewers))
 
 abbrev μ-loop : tie.MeasureT-loop
 μ-loop films viewers n i₀ i = n - i
@@ -40,8 +40,9 @@ returns c =
     let at-turn = c .before .before .before in
     let at-loop = at-turn .before in
     sym
-    (at-loop .loop .inv .1
-    ∙ distinct-fails (at-loop .before .count .ensures) (at-turn .loop-test .taken) (sym (c .before .absent .ensures) ∙ not-true _ (c .if1 .taken)))
+    (at-loop .loop .inv
+    ∙ distinct-fails (at-loop .before .count .ensures) (at-turn .loop-test .taken)
+    (sym (c .before .absent .ensures) ∙ not-true _ (c .if1 .taken)))
 
 add-i : tie.Need-add-i Inv-loop μ-loop
 add-i c = search needs
@@ -52,16 +53,15 @@ loop-less c = search needs
 loop-again : tie.Need-loop-again Inv-loop μ-loop
 loop-again c =
     let at-turn = c .before .before .before in
-    let at-loop = at-turn .before in (
-      search needs,
-      at-loop .loop .inv .1
-          ∙ distinct-passes (at-loop .before .count .ensures) (at-turn .loop-test .taken) (sym (c .before .absent .ensures) ∙ not-false _ (c .if1 .left)),
-    )
+    let at-loop = at-turn .before in
+    at-loop .loop .inv
+    ∙ distinct-passes (at-loop .before .count .ensures) (at-turn .loop-test .taken)
+    (sym (c .before .absent .ensures) ∙ not-false _ (c .if1 .left))
 
 returns-2 : tie.Need-returns-2 Inv-loop μ-loop
 returns-2 c =
     sym
-    (c .before .loop .inv .1
+    (c .before .loop .inv
     ∙ ap distinctFilms (drop-behind (c .before .before .count .ensures) (c .loop-test .left)))
 
 pub distinct-films-spec : {M : Type 1} → statement M

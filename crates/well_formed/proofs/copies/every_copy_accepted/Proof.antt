@@ -1,6 +1,6 @@
 -- `well_formed::every_copy_accepted` meets its contract. The invariant: the copies not yet passed give the answer for all.
 use mathlib.Core.Path.{_≡_, sym, ap, _∙_}
-use Prim.Native.Nat.{_≤_, _-_}
+use Prim.Native.Nat.{_-_}
 use borrow.Author.Needs.{needs}
 use borrow.Author.Tests.{not-true, not-false}
 use lib.ListN.{drop}
@@ -11,7 +11,7 @@ use Rattle.well_formed.proofs.copies.every_copy_accepted.Statement.{sta
 use Rattle.well_formed.proofs.copies.every_copy_accepted.Tie as tie
 
 abbrev Inv-loop : tie.InvT-loop
-Inv-loop films viewers n i₀ i = (i ≤ n) × (every copyAccepted (entries films viewers) ≡ every copyAccepted (drop i (entries films viewers)))
+Inv-loop films viewers n i₀ i = every copyAccepted (entries films viewers) ≡ every copyAccepted (drop i (entries films viewers))
 
 abbrev μ-loop : tie.MeasureT-loop
 μ-loop films viewers n i₀ i = n - i
@@ -42,8 +42,9 @@ returns c =
     let at-turn = c .before .before .before .before in
     let at-loop = at-turn .before in
     sym
-    (at-loop .loop .inv .1
-    ∙ every-fails copyAccepted (at-loop .before .count .ensures) (at-turn .loop-test .taken) (sym (c .before .copy-accepted .ensures) ∙ not-true _ (c .if1 .taken)))
+    (at-loop .loop .inv
+    ∙ every-fails copyAccepted (at-loop .before .count .ensures) (at-turn .loop-test .taken)
+    (sym (c .before .copy-accepted .ensures) ∙ not-true _ (c .if1 .taken)))
 
 add-i : tie.Need-add-i Inv-loop μ-loop
 add-i c = search needs
@@ -54,16 +55,15 @@ loop-less c = search needs
 loop-again : tie.Need-loop-again Inv-loop μ-loop
 loop-again c =
     let at-turn = c .before .before .before .before in
-    let at-loop = at-turn .before in (
-      search needs,
-      at-loop .loop .inv .1
-          ∙ every-passes copyAccepted (at-loop .before .count .ensures) (at-turn .loop-test .taken) (sym (c .before .copy-accepted .ensures) ∙ not-false _ (c .if1 .left)),
-    )
+    let at-loop = at-turn .before in
+    at-loop .loop .inv
+    ∙ every-passes copyAccepted (at-loop .before .count .ensures) (at-turn .loop-test .taken)
+    (sym (c .before .copy-accepted .ensures) ∙ not-false _ (c .if1 .left))
 
 returns-2 : tie.Need-returns-2 Inv-loop μ-loop
 returns-2 c =
     sym
-    (c .before .loop .inv .1
+    (c .before .loop .inv
     ∙ ap (every copyAccepted) (drop-behind (c .before .before .count .ensures) (c .loop-test .left)))
 
 pub every-copy-accepted-spec : {M : Type 1} → statement M

@@ -1,7 +1,6 @@
 -- `well_formed::all_zero` meets its contract. The invariant: the places not yet passed give the answer for all.
-use mathlib.Core.Path.{_≡_, refl, sym, ap, _∙_}
+use mathlib.Core.Path.{_≡_, sym, ap, _∙_}
 use Prim.Native.Nat.{_≤_, _-_}
-use native.Mathlib.Omega.{arith}
 use borrow.Author.Needs.{needs}
 use lib.ListN.{length, drop, drop-of-length-le}
 use Rattle.plan_text.specs.Held.{allZero}
