@@ -12,7 +12,9 @@ use Rattle.well_formed.proofs.copies.absent.Statement.{statement}
 use Rattle.well_formed.proofs.copies.absent.Tie as tie
 
 abbrev Inv-loop : tie.InvT-loop
-Inv-loop film films viewers from n i₀ i = occurrences film (drop from (entries films viewers)) ≡ occurrences film (drop i (entries films viewers))
+Inv-loop film films viewers from n i₀ i =
+    occurrences film (drop from (entries films viewers))
+    ≡ occurrences film (drop i (entries films viewers))
 
 abbrev μ-loop : tie.MeasureT-loop
 μ-loop film films viewers from n i₀ i = n - i

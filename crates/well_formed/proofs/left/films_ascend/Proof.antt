@@ -1,4 +1,4 @@
--- `well_formed::films_ascend` meets its contract. The invariant: the films not yet passed, above the last one passed, give the answer for all.
+-- `well_formed::films_ascend` meets its contract. The invariant: the films not yet passed, above the last one passed, give the answer.
 use mathlib.Core.Path.{_≡_, sym, ap, _∙_}
 use Prim.Native.Nat.{_-_}
 use borrow.Author.Needs.{needs}
@@ -11,7 +11,9 @@ use Rattle.well_formed.proofs.left.films_ascend.Statement.{statement}
 use Rattle.well_formed.proofs.left.films_ascend.Tie as tie
 
 abbrev Inv-loop : tie.InvT-loop
-Inv-loop films amounts n last₀ i₀ last i = ascendingAbove 0 (entries films amounts) ≡ ascendingAbove last (drop i (entries films amounts))
+Inv-loop films amounts n last₀ i₀ last i =
+    ascendingAbove 0 (entries films amounts)
+    ≡ ascendingAbove last (drop i (entries films amounts))
 
 abbrev μ-loop : tie.MeasureT-loop
 μ-loop films amounts n last₀ i₀ last i = n - i
