@@ -1,6 +1,7 @@
 -- `well_formed::films_ascend` meets its contract. The invariant: the films not yet passed, above the last one passed, give the answer.
 use mathlib.Core.Path.{_≡_, sym, ap, _∙_}
 use Prim.Native.Nat.{_-_}
+use native.Mathlib.Omega.{arith}
 use borrow.Author.Needs.{needs}
 use lib.ListN.{drop}
 use Rattle.placement.specs.Held.{entries}
@@ -36,7 +37,7 @@ returns c =
     let at-loop = at-turn .before in
     sym
     (at-loop .loop .inv
-    ∙ ascending-fails (at-loop .before .count .ensures) (at-turn .loop-test .taken) _ (c .if1 .taken))
+    ∙ ascending-fails (at-loop .before .count .ensures) (at-turn .loop-test .taken) _ (omega arith))
 
 add-i : tie.Need-add-i Inv-loop μ-loop
 add-i c = search needs
@@ -49,7 +50,7 @@ loop-again c =
     let at-turn = c .before .before in
     let at-loop = at-turn .before in
     at-loop .loop .inv
-    ∙ ascending-passes (at-loop .before .count .ensures) (at-turn .loop-test .taken) _ (c .if1 .left)
+    ∙ ascending-passes (at-loop .before .count .ensures) (at-turn .loop-test .taken) _ (omega arith)
 
 returns-2 : tie.Need-returns-2 Inv-loop μ-loop
 returns-2 c =

@@ -1,6 +1,7 @@
 -- `well_formed::all_zero` meets its contract. The invariant: the places not yet passed give the answer for all.
-use mathlib.Core.Path.{_≡_, sym, ap, _∙_}
+use mathlib.Core.Path.{_≡_, refl, sym, ap, _∙_}
 use Prim.Native.Nat.{_-_}
+use native.Mathlib.Omega.{arith}
 use borrow.Author.Needs.{needs}
 use lib.ListN.{length, drop, drop-of-length-le}
 use Rattle.plan_text.specs.Held.{allZero}
@@ -15,7 +16,7 @@ abbrev μ-loop : tie.MeasureT-loop
 μ-loop places i₀ i = length places - i
 
 loop-holds : tie.Need-loop-holds Inv-loop μ-loop
-loop-holds c = search needs
+loop-holds c = refl
 
 mul-if1 : tie.Need-mul-if1 Inv-loop μ-loop
 mul-if1 c = search needs
@@ -26,7 +27,7 @@ shared-slice-read-if1 c = search needs
 returns : tie.Need-returns Inv-loop μ-loop
 returns c =
     let at-turn = c .before .before in
-    sym (at-turn .before .loop .inv ∙ allZero-fails _ _ (at-turn .loop-test .taken) (c .if1 .taken))
+    sym (at-turn .before .loop .inv ∙ allZero-fails _ _ (at-turn .loop-test .taken) (λ zero. c .if1 .taken (omega arith)))
 
 add-i : tie.Need-add-i Inv-loop μ-loop
 add-i c = search needs
@@ -37,7 +38,7 @@ loop-less c = search needs
 loop-again : tie.Need-loop-again Inv-loop μ-loop
 loop-again c =
     let at-turn = c .before .before in
-    at-turn .before .loop .inv ∙ allZero-passes _ _ (at-turn .loop-test .taken) (c .if1 .left)
+    at-turn .before .loop .inv ∙ allZero-passes _ _ (at-turn .loop-test .taken) (omega arith)
 
 returns-2 : tie.Need-returns-2 Inv-loop μ-loop
 returns-2 c =
