@@ -1,6 +1,4 @@
 pub mod ExamplesHold
-pub mod Planned
-pub mod PlannedTables
 pub mod Choices
 pub mod Decimals
 pub mod Pieces
@@ -25,3 +23,4 @@ pub mod LongestHolds
 pub mod ReadTables
 pub mod Verdicts
 pub mod RoundTrip
+pub mod Planned

@@ -38,7 +38,7 @@ unused-padded part slots xs rest =
     zeros = replicate (slots - length (map part xs)) 0
 
 -- All unused places are zero after writing.
-unused-written : (disks : List Disk) (layout : List (List Item)) (films viewers counts : List ℕ) → DisksWellFormed disks layout
+pub unused-written : (disks : List Disk) (layout : List (List Item)) (films viewers counts : List ℕ) → DisksWellFormed disks layout
     → unusedZeroFrom disks (places filmOf disks layout ++ films) (places amountOf disks layout ++ viewers) (map length layout ++ counts) ≡ true
 unused-written [] [] films viewers counts fits = refl
 unused-written (d ∷ ds) (copies ∷ rest) films viewers counts fits =
