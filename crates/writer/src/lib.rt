@@ -1,0 +1,2 @@
+// The writer of plan texts.
+mod number;
