@@ -33,10 +33,10 @@ module _ {at : ℕ} {all entry : List ℕ} {next : ℕ} {bytes space after : Lis
   pub rest-step : (rest : List ℕ) → Rest at all entry next (bytes ++ rest) space → Put next bytes space after beyond → Rest at all entry beyond rest after
   rest-step rest r p = record {
     held =
-      ap (λ (s : List ℕ). sets s beyond rest) (p .held)
-      ∙ ap (λ (k : ℕ). sets (sets space next bytes) k rest) (p .behind)
-      ∙ sym (sets-append space next bytes rest)
-      ∙ r .held;
+        ap (λ (s : List ℕ). sets s beyond rest) (p .held)
+        ∙ ap (λ (k : ℕ). sets (sets space next bytes) k rest) (p .behind)
+        ∙ sym (sets-append space next bytes rest)
+        ∙ r .held;
     behind = omega (arith, p .behind, r .behind, length-append bytes rest);
   }
 

@@ -1,2 +1,3 @@
 // The writer of plan texts.
+mod line;
 mod number;

@@ -40,12 +40,15 @@ loop-again : tie.Need-loop-again Inv-loop μ-loop
 loop-again c =
     let here = c .before .before .before .before .before .before in
     let word = here .before .before .before .args .word .now in
-    let put = c .before .before .put-byte .ensures in
-    (omega arith,
-    (rest-step (drop (here .loop .i + 1) word)
-    (rest-as (drop-next word (here .loop .i) (omega arith)) (here .loop .inv .1 .0))
-    put,
-    put-length put ∙ here .loop .inv .1 .1))
+    let put = c .before .before .put-byte .ensures in (
+      omega arith,
+      (
+        rest-step (drop (here .loop .i + 1) word)
+            (rest-as (drop-next word (here .loop .i) (omega arith)) (here .loop .inv .1 .0))
+            put,
+        put-length put ∙ here .loop .inv .1 .1,
+      ),
+    )
 
 same-length : tie.Need-same-length Inv-loop μ-loop
 same-length c = c .before .loop .inv .1 .1
