@@ -1,3 +1,4 @@
 // The writer of plan texts.
+mod judge;
 mod line;
 mod number;
