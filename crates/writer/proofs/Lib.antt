@@ -5,3 +5,4 @@ pub mod Conjunctions
 pub mod Racks
 pub mod DiskParts
 pub mod Calls
+pub mod DiskLines

@@ -2,3 +2,4 @@
 mod judge;
 mod line;
 mod number;
+mod text;
