@@ -4,14 +4,14 @@ use mathlib.Core.Bool.{Bool, true, false, _&&_}
 use mathlib.Core.List.{List, [], _∷_}
 use Prim.Native.Nat.{ℕ, zero, suc, _*_, _≤_}
 use native.Mathlib.Omega.{arith}
-use borrow.Author.Tests.{leb-true, eq-eqb}
+use borrow.Author.Tests.{leb-true, eq-eqb, eqb-true}
 use lib.Dec.{leb, eqb}
 use lib.ListN.{length, drop}
 use Rattle.placement.specs.Rack.{rackOf, rackAccepted}
 use Rattle.placement.specs.Tables.{copyPlaces, countPlaces, leftPlaces}
 use Rattle.placement.specs.Held.{copiesFrom, leftHeld}
-use Rattle.plan_text.specs.Plan.{disksAccepted, leftAccepted}
-use Rattle.plan_text.specs.Held.{unusedZeroHeld}
+use Rattle.plan_text.specs.Plan.{wellFormed, disksAccepted, leftAccepted}
+use Rattle.plan_text.specs.Held.{unusedZeroHeld, unusedZeroFrom}
 use Rattle.plan_text.specs.WriteCall.{WriteCall, roomStated, planOf, wellFormedCall}
 use Rattle.plan_text.proofs.Choices.{and-left, and-right}
 use Rattle.writer.specs.Call.{disksFormed, CopyRoom}
@@ -64,3 +64,29 @@ module _ (c : WriteCall) where
 
     pub room-leftAmounts : c .left ≤ length (c .tables .leftAmounts)
     room-leftAmounts = omega (arith, left-places)
+
+  -- The parts of the test for a well-formed plan.
+  module _ (formed : wellFormedCall c ≡ true) where
+    pub formed-plan : wellFormed (planOf c) ≡ true
+    formed-plan = and-right (unusedZeroHeld (c .disks) (c .slots) (c .streams) (c .tables)) (wellFormed (planOf c)) formed
+
+    behind-rack : (eqb (length (planOf c .copies)) (c .disks) && (disksAccepted (c .slots) (c .streams) (planOf c .copies) && leftAccepted (planOf c .left))) ≡ true
+    behind-rack = and-right (rackAccepted (c .disks) (c .slots) (c .streams)) _ formed-plan
+
+    behind-count : (disksAccepted (c .slots) (c .streams) (planOf c .copies) && leftAccepted (planOf c .left)) ≡ true
+    behind-count = and-right (eqb (length (planOf c .copies)) (c .disks)) _ behind-rack
+
+    pub formed-unused : unusedZeroFrom (rackOf (c .disks) (c .slots) (c .streams)) (c .tables .films) (c .tables .viewers) (c .tables .counts) ≡ true
+    formed-unused = and-left (unusedZeroHeld (c .disks) (c .slots) (c .streams) (c .tables)) (wellFormed (planOf c)) formed
+
+    pub formed-rack : rackAccepted (c .disks) (c .slots) (c .streams) ≡ true
+    formed-rack = and-left (rackAccepted (c .disks) (c .slots) (c .streams)) _ formed-plan
+
+    pub formed-count : length (planOf c .copies) ≡ c .disks
+    formed-count = eqb-true _ _ (and-left (eqb (length (planOf c .copies)) (c .disks)) _ behind-rack)
+
+    pub formed-disks : disksAccepted (c .slots) (c .streams) (planOf c .copies) ≡ true
+    formed-disks = and-left (disksAccepted (c .slots) (c .streams) (planOf c .copies)) _ behind-count
+
+    pub formed-left : leftAccepted (planOf c .left) ≡ true
+    formed-left = and-right (disksAccepted (c .slots) (c .streams) (planOf c .copies)) _ behind-count

@@ -6,3 +6,6 @@ pub mod Racks
 pub mod DiskParts
 pub mod Calls
 pub mod DiskLines
+pub mod ServedSum
+pub mod Bounds
+pub mod PlanTexts
