@@ -57,8 +57,8 @@ total-most (x ∷ xs) small = omega (arith, small .0 .1, total-most xs (small .1
 
 -- The lines of accepted disks that are numbered up to 100 take at most 70,000,000 bytes each.
 pub disks-short :
-  (k l : ℕ) (copies : List (List Item)) (number : ℕ) → k ≤ 32 → l ≤ 65535 → disksAccepted k l copies ≡ true → number + length copies ≤ 100
-  → length (diskLines number copies) ≤ 70000000 * length copies
+    (k l : ℕ) (copies : List (List Item)) (number : ℕ) → k ≤ 32 → l ≤ 65535 → disksAccepted k l copies ≡ true → number + length copies ≤ 100
+    → length (diskLines number copies) ≤ 70000000 * length copies
 disks-short k l [] number slots streams e h = omega arith
 disks-short k l (copies ∷ rest) number slots streams e h =
     let few = disk-few k l (omega arith) copies (and-left (diskAccepted k l copies) (disksAccepted k l rest) e) in

@@ -9,3 +9,4 @@ pub mod DiskLines
 pub mod ServedSum
 pub mod Bounds
 pub mod PlanTexts
+pub mod CallSums
