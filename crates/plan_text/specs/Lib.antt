@@ -11,3 +11,6 @@ pub mod ReadCall
 pub mod WriteCall
 pub mod Examples
 pub mod CallExamples
+pub mod Planned
+pub mod Refusal
+pub mod Longest
