@@ -2,4 +2,7 @@
 mod judge;
 mod line;
 mod number;
+mod refusal;
 mod text;
+
+pub use refusal::write_refusal;

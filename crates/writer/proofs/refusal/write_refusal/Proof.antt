@@ -1,0 +1,22 @@
+use borrow.Author.Needs.{needs}
+use Rattle.writer.proofs.refusal.write_refusal.Statement.{statement}
+use Rattle.writer.proofs.refusal.write_refusal.Tie as tie
+
+refusal-length-requires : tie.Need-refusal-length-requires
+refusal-length-requires c κs = search needs
+
+returns : tie.Need-returns
+returns c = ?
+
+put-refusal-requires : tie.Need-put-refusal-requires
+put-refusal-requires c κs = search needs
+
+same-length : tie.Need-same-length
+same-length c = search needs
+
+returns-2 : tie.Need-returns-2
+returns-2 c = ?
+
+pub write-refusal-spec : {M : Type 1} → statement M
+write-refusal-spec =
+    tie.close (tie.spec refusal-length-requires returns put-refusal-requires same-length returns-2)
