@@ -10,3 +10,5 @@ pub mod ServedSum
 pub mod Bounds
 pub mod PlanTexts
 pub mod CallSums
+pub mod Verdicts
+pub mod Promises
