@@ -10,3 +10,6 @@ pub mod ServedSum
 pub mod Bounds
 pub mod PlanTexts
 pub mod CallSums
+pub mod Verdicts
+pub mod Promises
+pub mod Refusals

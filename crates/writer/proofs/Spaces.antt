@@ -1,10 +1,10 @@
 -- Bytes stored one run after the other: what is left to store gives the whole.
 use mathlib.Core.Path.{_≡_, refl, sym, ap, subst, _∙_}
 use mathlib.Core.List.{List, [], _∷_, _++_}
-use Prim.Native.Nat.{ℕ, suc, _+_, _<_}
+use Prim.Native.Nat.{ℕ, suc, _+_, _≤_, _<_}
 use native.Mathlib.Omega.{arith}
-use lib.ListN.{length, set, length-append}
-use lib.Seq.{sets, length-sets}
+use lib.ListN.{length, drop, set, length-append}
+use lib.Seq.{sets, length-sets, sets-eq}
 use Rattle.writer.specs.Space.{Put}
 
 -- Storing two runs together is storing one behind the other.
@@ -65,3 +65,10 @@ put-as {at} {bytes} {same} {entry} {exit} {next} e p = subst (λ (b : List ℕ).
 -- Two runs, one behind the other, are one run.
 pub put-then : {at : ℕ} {xs ys entry between exit : List ℕ} {next beyond : ℕ} → Put at xs entry between next → Put next ys between exit beyond → Put at (xs ++ ys) entry exit beyond
 put-then {at} {xs} {ys} {entry} p q = rest-last (rest-step ys (rest-start at (xs ++ ys) entry) p) q
+
+-- Stored from the first place on, in a space that is long enough, the bytes stand before the rest of the space.
+pub put-first : {bytes entry exit : List ℕ} {next : ℕ} → Put 0 bytes entry exit next → length bytes ≤ length entry → exit ≡ bytes ++ drop (length bytes) entry
+put-first {bytes} {entry} p h =
+    let n : 0 + length bytes ≡ length bytes = omega arith in
+    let fits : 0 + length bytes ≤ length entry = omega arith in
+    p .held ∙ sets-eq bytes entry 0 fits ∙ ap (λ (k : ℕ). bytes ++ drop k entry) n

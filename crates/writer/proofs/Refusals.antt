@@ -1,0 +1,43 @@
+-- The line of a refusal as its runs, its length, and what storing it comes to.
+use mathlib.Core.Path.{_≡_, refl, sym, ap, _∙_}
+use mathlib.Core.Bool.{Bool, true, false, cond}
+use mathlib.Core.List.{List, [], _∷_, _++_, append-assoc}
+use Prim.Native.Nat.{ℕ, zero, suc, _+_, _≤_, _<_}
+use native.Mathlib.Omega.{arith}
+use borrow.Author.Tests.{le-leb, lt-leb}
+use lib.Dec.{leb}
+use lib.ListN.{length, length-append}
+use lib.Seq.{sets}
+use Rattle.placement.specs.Tables.{written}
+use Rattle.plan_text.specs.Ascii.{ascii}
+use Rattle.plan_text.specs.Decimal.{decimal}
+use Rattle.plan_text.specs.Text.{space, closed, lineFeed}
+use Rattle.plan_text.specs.Refusal.{refusalEnd, refusalText}
+use Rattle.writer.specs.Space.{Put}
+use Rattle.writer.specs.RefusalPromise.{RefusalPromise}
+use Rattle.writer.proofs.Bounds.{decimal-short}
+
+-- Without a second number there is the closing bracket alone.
+pub end-none : (second : ℕ) → second ≡ 0 → (closed ∷ []) ≡ refusalEnd second
+end-none zero e = refl
+end-none (suc n) e = absurd (omega arith)
+
+-- A second number stands between a space and the bracket.
+pub end-some : (second : ℕ) → (second ≡ 0 → ⊥) → (space ∷ []) ++ (decimal second ++ (closed ∷ [])) ≡ refusalEnd second
+end-some zero some = absurd (some refl)
+end-some (suc n) some = refl
+
+pub end-some-length : (second : ℕ) → (second ≡ 0 → ⊥) → length (refusalEnd second) ≡ 2 + length (decimal second)
+end-some-length second some =
+    omega (arith, sym (ap length (end-some second some)), length-append (decimal second) (closed ∷ []))
+
+pub end-short : (second : ℕ) → length (refusalEnd second) ≤ second + 3
+end-short zero = omega arith
+end-short (suc n) = omega (arith, end-some-length (suc n) (λ e. absurd (omega arith)), decimal-short (suc n))
+
+-- The line is a word, a number, its end and a line feed.
+pub refusal-runs :
+    (number second : ℕ) → ascii "(refused " ++ (decimal number ++ (refusalEnd second ++ (lineFeed ∷ []))) ≡ refusalText number second
+unfolding refusalText
+refusal-runs number second = simp append-assoc
+
