@@ -16,6 +16,7 @@ use Rattle.plan_text.specs.Refusal.{refusalEnd, refusalText}
 use Rattle.writer.specs.Space.{Put}
 use Rattle.writer.specs.RefusalPromise.{RefusalPromise}
 use Rattle.writer.proofs.Bounds.{decimal-short}
+use Rattle.writer.proofs.Spaces.{put-first}
 
 -- Without a second number there is the closing bracket alone.
 pub end-none : (second : ℕ) → second ≡ 0 → (closed ∷ []) ≡ refusalEnd second
@@ -41,3 +42,30 @@ pub refusal-runs :
 unfolding refusalText
 refusal-runs number second = simp append-assoc
 
+-- What is promised, whether the space is long enough or not.
+abbrev fits : ℕ → ℕ → List ℕ → Bool
+fits number second entry = leb (length (refusalText number second)) (length entry)
+
+pub refusal-short :
+    (number second : ℕ) (entry : List ℕ) → length entry < length (refusalText number second) → RefusalPromise number second entry entry 0
+refusal-short number second entry short = record {
+  count = ap (λ (b : Bool). cond b (length (refusalText number second)) 0) (sym tested);
+  bytes = ap (λ (b : Bool). cond b (written (refusalText number second) entry) entry) (sym tested);
+}
+  where
+    tested : fits number second entry ≡ false
+    tested = lt-leb (length (refusalText number second)) (length entry) short
+
+pub refusal-written :
+    (number second : ℕ) (entry exit : List ℕ) (next : ℕ) → length (refusalText number second) ≤ length entry
+    → Put 0 (refusalText number second) entry exit next → RefusalPromise number second entry exit next
+refusal-written number second entry exit next room put = record {
+  count =
+      (let e : next ≡ length (refusalText number second) = omega (arith, put .behind) in e)
+      ∙ ap (λ (b : Bool). cond b (length (refusalText number second)) 0) (sym tested);
+  bytes =
+      put-first put room ∙ ap (λ (b : Bool). cond b (written (refusalText number second) entry) entry) (sym tested);
+}
+  where
+    tested : fits number second entry ≡ true
+    tested = le-leb (length (refusalText number second)) (length entry) room

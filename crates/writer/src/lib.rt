@@ -5,13 +5,13 @@ mod number;
 mod refusal;
 mod text;
 
-pub use refusal::write_refusal;
 use crate::judge::formed;
 use crate::judge::room_stated;
 use crate::text::put_text;
 use crate::text::text_length;
 use placement::Rack;
 use placement::accepted;
+pub use refusal::write_refusal;
 ghost use Rattle.writer.specs.Answers.{numbersOf};
 ghost use Rattle.writer.specs.Call.{callOf};
 ghost use Rattle.writer.specs.WritePromise.{WritePromise};
