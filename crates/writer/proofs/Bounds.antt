@@ -1,21 +1,21 @@
 -- The text of a well-formed plan is short: its length is far below 2⁶⁴. A number has at most as many digits as its value and one.
 use mathlib.Core.Path.{_≡_, ap}
-use mathlib.Core.Bool.{Bool, true, _&&_}
-use mathlib.Core.List.{List, [], _∷_, _++_}
-use Prim.Native.Nat.{ℕ, zero, suc, _+_, _*_, _/_, _%_, _≤_, _<_}
+use mathlib.Core.Bool.{true}
+use mathlib.Core.List.{List, [], _∷_}
+use Prim.Native.Nat.{ℕ, zero, suc, _+_, _*_, _/_, _%_, _≤_}
 use native.Mathlib.Omega.{arith}
 use lib.ListN.{length, length-append}
 use Rattle.placement.specs.Items.{Item, total}
 use Rattle.placement.specs.Method.{served}
 use Rattle.placement.proofs.Tests.{by-order}
 use Rattle.plan_text.specs.Decimal.{decimal, digit}
-use Rattle.plan_text.specs.Text.{space, closed, lineFeed, pairText, pairsText, diskLine}
+use Rattle.plan_text.specs.Text.{lineFeed, pairText, pairsText, diskLine}
 use Rattle.plan_text.specs.Plan.{diskAccepted, disksAccepted}
 use Rattle.plan_text.proofs.Choices.{and-left, and-right}
 use Rattle.plan_text.proofs.Decimals.{decimal-small, decimal-large}
 use Rattle.plan_text.proofs.Pairs.{SmallItems}
 use Rattle.plan_text.proofs.Limits.{disk-few, disk-total}
-use Rattle.writer.specs.Space.{twoText, ended, diskLines}
+use Rattle.writer.specs.Space.{twoText, diskLines}
 use Rattle.writer.proofs.Texts.{two-length, disk-length}
 
 decimal-within : (s n : ℕ) → n ≤ s → length (decimal n) ≤ n + 1

@@ -1,13 +1,12 @@
 -- S and U of the plan that a call holds, as sums over its tables.
 use mathlib.Core.Path.{_≡_, sym, _∙_}
-use mathlib.Core.Bool.{true}
 use Prim.Native.Nat.{ℕ, _*_, _<_, _^_}
 use native.Mathlib.Omega.{arith}
-use lib.ListN.{length, take}
+use lib.ListN.{take}
 use lib.Seq.{length-take-le}
 use Rattle.plan_text.specs.Plan.{servedOf, unservedOf}
 use Rattle.plan_text.specs.WriteCall.{WriteCall, planOf}
-use Rattle.well_formed.specs.Sum.{sumList, Summed}
+use Rattle.well_formed.specs.Sum.{Summed}
 use Rattle.well_formed.proofs.Sums.{sumList-entries}
 use Rattle.writer.specs.Call.{Writable}
 use Rattle.writer.proofs.Racks.{places-most}

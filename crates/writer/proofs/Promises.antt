@@ -1,5 +1,5 @@
 -- The whole promise of `write` follows from its first two equations: the answer and the bytes of the definition.
-use Prim.Native.Nat.{ℕ, _≤_, _<_}
+use Prim.Native.Nat.{ℕ, _≤_}
 use mathlib.Core.Path.{_≡_, sym, ap, _∙_}
 use mathlib.Core.Bool.{true}
 use mathlib.Core.List.{List, _++_}
@@ -9,7 +9,6 @@ use lib.Seq.{take-append-seam, drop-append-seam}
 use Rattle.placement.specs.Rack.{rackAccepted}
 use Rattle.placement.specs.Tables.{written}
 use Rattle.placement.proofs.Tests.{by-test, by-order}
-use Rattle.plan_text.specs.Plan.{wellFormed}
 use Rattle.plan_text.specs.WriteCall.{WriteCall, WriteNumbers, planOf, roomStated, wellFormedCall, writing, spaceAfter}
 use Rattle.writer.specs.Answers.{refusedWith}
 use Rattle.writer.specs.WritePromise.{WritePromise, textHeld}
@@ -24,7 +23,7 @@ writtenOf c = record { refusal = 0; second = 0; length = length (textHeld c) }
 by-end :
     {P : Type 0} (c : WriteCall) (room : List ℕ)
     → ((number : ℕ) → 1 ≤ number → Ends c room (refusedWith number) room → P)
-    → (wellFormed (planOf c) ≡ true → Ends c room (writtenOf c) (written (textHeld c) room) → P)
+    → (wellFormedCall c ≡ true → Ends c room (writtenOf c) (written (textHeld c) room) → P)
     → P
 by-end c room refusal text =
     by-test (rackAccepted (c .disks) (c .slots) (c .streams))
@@ -35,7 +34,7 @@ by-end c room refusal text =
     (λ formed.
     by-order (length room) (length (textHeld c))
     (λ short. refusal 11 (omega arith) (ends-space c room rack stated formed short))
-    (λ fits. text (formed-plan c formed) (ends-written c room rack stated formed fits)))
+    (λ fits. text formed (ends-written c room rack stated formed fits)))
     (λ formed. refusal 10 (omega arith) (ends-plan c room rack stated formed)))
     (λ stated. refusal 7 (omega arith) (ends-tables c room rack stated)))
     (λ rack. refusal 1 (omega arith) (ends-rack c room rack))
@@ -65,7 +64,7 @@ module _ (c : WriteCall) (room exit : List ℕ) (answer : WriteNumbers) (same : 
   byte-kept h = by-end c room (λ number some e. left ∙ e .leaves) (λ formed e. absurd (omega (arith, refused-by e)))
 
   module _ (none : answer .refusal ≡ 0) where
-    plan-formed : wellFormed (planOf c) ≡ true
+    plan-formed : wellFormedCall c ≡ true
     plan-formed = by-end c room (λ number some e. absurd (omega (arith, refused-by e))) (λ formed e. formed)
 
     text-counted : answer .length ≡ length (textHeld c)
@@ -103,7 +102,7 @@ module _ (c : WriteCall) (room exit : List ℕ) (answer : WriteNumbers) (same : 
     formed = plan-formed;
     textLength = text-counted;
     text = text-first;
-    accepted = λ none. record { plan = planOf c; formed = plan-formed none; same = sym (text-first none) };
+    accepted = λ none. record { plan = planOf c; formed = formed-plan c (plan-formed none); same = sym (text-first none) };
     after = after-kept;
   }
 

@@ -1,9 +1,9 @@
 -- A call of `write` as document 01's definitions see it.
-use Prim.Native.Nat.{ℕ, _*_, _≤_, _<_}
+use Prim.Native.Nat.{ℕ, _*_, _≤_}
 use mathlib.Core.Path.{_≡_}
 use mathlib.Core.Bool.{Bool, true, _&&_}
 use mathlib.Core.List.{List}
-use lib.ListN.{length, getD}
+use lib.ListN.{length}
 use Rattle.placement.specs.declared.Rack.{Rack}
 use Rattle.placement.specs.Rack.{rackOf}
 use Rattle.placement.specs.Held.{copiesFrom}

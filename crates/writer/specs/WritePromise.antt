@@ -5,15 +5,15 @@ use mathlib.Core.Bool.{true, false}
 use mathlib.Core.List.{List}
 use lib.ListN.{length, take, drop}
 use Rattle.placement.specs.Rack.{rackAccepted}
-use Rattle.plan_text.specs.Plan.{wellFormed}
 use Rattle.plan_text.specs.Text.{textOf}
 use Rattle.plan_text.specs.Accepted.{Accepted}
 use Rattle.plan_text.specs.WriteCall.{WriteCall, WriteNumbers, planOf, roomStated, wellFormedCall, writing, spaceAfter}
 
--- The tests of a call, in 01's order of refusals, and how they end.
+-- N, k or L is outside its range.
 abbrev pub RackRefused : WriteCall → Type 0
 RackRefused c = rackAccepted (c .disks) (c .slots) (c .streams) ≡ false
 
+-- N, k and L are in range.
 abbrev pub RackHolds : WriteCall → Type 0
 RackHolds c = rackAccepted (c .disks) (c .slots) (c .streams) ≡ true
 
@@ -36,8 +36,8 @@ pub record WritePromise (call : WriteCall) (entry exit : List ℕ) (answer : Wri
   pub noSecond : answer .second ≡ 0
   pub noLength : 1 ≤ answer .refusal → answer .length ≡ 0
   pub noByte : 1 ≤ answer .refusal → exit ≡ entry
-  -- without one the plan held is well formed, the first bytes are its text, and the bytes after the text are untouched
-  pub formed : answer .refusal ≡ 0 → wellFormed (planOf call) ≡ true
+  -- without one the tables hold a well-formed plan, the first bytes are its text, and the bytes after the text are untouched
+  pub formed : answer .refusal ≡ 0 → wellFormedCall call ≡ true
   pub textLength : answer .refusal ≡ 0 → answer .length ≡ length (textHeld call)
   pub text : answer .refusal ≡ 0 → take (answer .length) exit ≡ textHeld call
   pub accepted : answer .refusal ≡ 0 → Accepted (take (answer .length) exit)

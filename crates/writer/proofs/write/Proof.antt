@@ -6,7 +6,7 @@ use mathlib.Core.Bool.{true}
 use Prim.Native.Nat.{ℕ, _≤_}
 use native.Mathlib.Omega.{arith}
 use lib.ListN.{length}
-use Rattle.plan_text.specs.WriteCall.{WriteCall, WriteNumbers, roomStated, wellFormedCall}
+use Rattle.plan_text.specs.WriteCall.{WriteCall, roomStated, wellFormedCall}
 use Rattle.writer.specs.Call.{callOf}
 use Rattle.writer.specs.WritePromise.{RackHolds, textHeld}
 use Rattle.writer.proofs.Spaces.{put-first, put-length}

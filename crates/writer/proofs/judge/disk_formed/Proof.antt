@@ -7,10 +7,6 @@ use lib.Seq.{length-take-le}
 use Rattle.writer.proofs.Conjunctions.{bracket-second-fails, bracket-third-fails, bracket-holds}
 use Rattle.writer.proofs.judge.disk_formed.Statement.{statement}
 use Rattle.writer.proofs.judge.disk_formed.Tie as tie
-use Rattle.writer.proofs.judge.disk_formed.Reads as reads
-use Rattle.writer.proofs.judge.disk_formed.Lts as lts
-use Rattle.well_formed.proofs.disk_accepted.Reads as disk-accepted-reads
-use Rattle.well_formed.proofs.all_zero.Reads as all-zero-reads
 
 returns : tie.Need-returns
 returns c = simp (lt-leb _ _ (c .if1 .taken))

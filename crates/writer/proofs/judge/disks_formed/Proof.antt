@@ -12,9 +12,6 @@ use Rattle.writer.proofs.DiskParts.{part-from, disk-room, formedAt, for
 use lib.ListN.{length, length-drop}
 use Rattle.writer.proofs.judge.disks_formed.Statement.{statement}
 use Rattle.writer.proofs.judge.disks_formed.Tie as tie
-use Rattle.writer.proofs.judge.disks_formed.Reads as reads
-use Rattle.writer.proofs.judge.disks_formed.Lts as lts
-use Rattle.writer.proofs.judge.disk_formed.Reads as disk-formed-reads
 
 abbrev Inv-loop : tie.InvT-loop
 Inv-loop films viewers counts disks slots streams places d₀ d =
@@ -23,12 +20,14 @@ Inv-loop films viewers counts disks slots streams places d₀ d =
 abbrev μ-loop : tie.MeasureT-loop
 μ-loop films viewers counts disks slots streams places d₀ d = disks - d
 
+-- The place behind disk d's last slot.
+abbrev behind : tie.In-loop Inv-loop μ-loop → ℕ
+behind c = c .before .loop .d * c .before .before .before .before .before .before .args .rack .slots .0 + c .before .before .before .before .before .before .args .rack .slots .0
+
 -- Disk d's places stand within the tables, and are few.
 room-here :
     (c : tie.In-loop Inv-loop μ-loop) →
-    (c .before .loop .d * c .before .before .before .before .before .before .args .rack .slots .0 + c .before .before .before .before .before .before .args .rack .slots .0 ≤ length (c .before .before .before .before .before .before .args .films .now))
-    × ((c .before .loop .d * c .before .before .before .before .before .before .args .rack .slots .0 + c .before .before .before .before .before .before .args .rack .slots .0 ≤ length (c .before .before .before .before .before .before .args .viewers .now))
-    × (c .before .loop .d * c .before .before .before .before .before .before .args .rack .slots .0 + c .before .before .before .before .before .before .args .rack .slots .0 ≤ 2048))
+    (behind c ≤ length (c .before .before .before .before .before .before .args .films .now)) × ((behind c ≤ length (c .before .before .before .before .before .before .args .viewers .now)) × (behind c ≤ 2048))
 room-here c =
     let rack = c .before .before .before .before .before .before .args .rack in
     let more = c .loop-test .taken in (

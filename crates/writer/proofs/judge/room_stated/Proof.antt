@@ -7,9 +7,6 @@ use Rattle.writer.proofs.Racks.{places-most}
 use Rattle.writer.proofs.Conjunctions.{first-fails, second-fails, two-hold}
 use Rattle.writer.proofs.judge.room_stated.Statement.{statement}
 use Rattle.writer.proofs.judge.room_stated.Tie as tie
-use Rattle.writer.proofs.judge.room_stated.Reads as reads
-use Rattle.writer.proofs.judge.room_stated.Lts as lts
-use Rattle.writer.proofs.judge.has_places.Reads as has-places-reads
 
 cast-disks : tie.Need-cast-disks
 cast-disks c = search needs

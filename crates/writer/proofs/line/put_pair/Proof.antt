@@ -1,12 +1,8 @@
 -- `line::put_pair` meets its contract: a space and an opening bracket, then the two numbers.
 use borrow.Author.Needs.{needs}
-use Rattle.writer.proofs.Spaces.{put-then, put-length}
+use Rattle.writer.proofs.Spaces.{put-then}
 use Rattle.writer.proofs.line.put_pair.Statement.{statement}
 use Rattle.writer.proofs.line.put_pair.Tie as tie
-use Rattle.writer.proofs.line.put_pair.Reads as reads
-use Rattle.writer.proofs.line.put_pair.Lts as lts
-use Rattle.writer.proofs.line.put_two.Reads as put-two-reads
-use Rattle.writer.proofs.number.put_word.Reads as put-word-reads
 
 slice-aggregate-put-word : tie.Need-slice-aggregate-put-word
 slice-aggregate-put-word c = search needs

@@ -1,20 +1,15 @@
 -- `line::put_pairs` meets its contract: the pairs from `i` on and the closing bracket, stored from `next` on, give the whole.
 use borrow.Author.Needs.{needs}
-use mathlib.Core.Path.{_≡_, refl, ap, sym, _∙_}
-use mathlib.Core.List.{List, _∷_}
-use Prim.Native.Nat.{ℕ, suc, _+_, _-_, _≤_}
+use mathlib.Core.Path.{_≡_, refl, ap, _∙_}
+use Prim.Native.Nat.{_-_, _≤_}
 use native.Mathlib.Omega.{arith}
-use lib.ListN.{length, drop, length-drop, drop-of-length-le}
+use lib.ListN.{length, drop}
 use Rattle.placement.specs.Held.{entries}
 use Rattle.plan_text.specs.Text.{pairsText}
 use Rattle.writer.proofs.Spaces.{Rest, rest-start, rest-as, rest-step, rest-last, put-length}
 use Rattle.writer.proofs.Texts.{pairs-next, pairs-end, pairs-next-length}
 use Rattle.writer.proofs.line.put_pairs.Statement.{statement}
 use Rattle.writer.proofs.line.put_pairs.Tie as tie
-use Rattle.writer.proofs.line.put_pairs.Reads as reads
-use Rattle.writer.proofs.line.put_pairs.Lts as lts
-use Rattle.writer.proofs.line.put_pair.Reads as put-pair-reads
-use Rattle.writer.proofs.number.put_byte.Reads as put-byte-reads
 
 abbrev Inv-loop : tie.InvT-loop
 Inv-loop out₀ at films amounts next₀ i₀ out next i =

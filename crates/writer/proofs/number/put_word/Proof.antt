@@ -1,16 +1,12 @@
 -- `number::put_word` meets its contract: the bytes of the word from `i` on, stored from `next` on, give the whole.
-use mathlib.Core.Path.{_≡_, refl, ap, subst, _∙_}
-use mathlib.Core.List.{List, _∷_}
-use Prim.Native.Nat.{ℕ, suc, _+_, _-_, _≤_}
+use mathlib.Core.Path.{_≡_, refl, _∙_}
+use Prim.Native.Nat.{_+_, _-_, _≤_}
 use native.Mathlib.Omega.{arith}
 use lib.ListN.{length, drop, length-drop, drop-of-length-le}
 use Rattle.writer.proofs.Spaces.{Rest, rest-start, rest-as, rest-step, rest-done, put-length}
 use Rattle.writer.proofs.Lists.{drop-next}
 use Rattle.writer.proofs.number.put_word.Statement.{statement}
 use Rattle.writer.proofs.number.put_word.Tie as tie
-use Rattle.writer.proofs.number.put_word.Reads as reads
-use Rattle.writer.proofs.number.put_word.Lts as lts
-use Rattle.writer.proofs.number.put_byte.Reads as put-byte-reads
 
 abbrev Inv-loop : tie.InvT-loop
 Inv-loop out₀ at word next₀ i₀ out next i =

@@ -8,7 +8,7 @@ use lib.Seq.{length-take-le}
 use Rattle.plan_text.specs.Text.{rackLine, leftLine, servedLine}
 use Rattle.plan_text.specs.Plan.{servedOf, unservedOf}
 use Rattle.plan_text.specs.WriteCall.{WriteCall, planOf}
-use Rattle.writer.specs.Space.{Put, ended, diskLines}
+use Rattle.writer.specs.Space.{ended, diskLines}
 use Rattle.writer.specs.Call.{callOf}
 use Rattle.writer.proofs.Spaces.{put-as, put-then, put-length}
 use Rattle.writer.proofs.Racks.{places-most}
@@ -17,13 +17,6 @@ use Rattle.writer.proofs.CallSums.{served-held, unserved-held}
 use Rattle.writer.proofs.PlanTexts.{text-runs, text-length, text-short}
 use Rattle.writer.proofs.text.put_text.Statement.{statement}
 use Rattle.writer.proofs.text.put_text.Tie as tie
-use Rattle.writer.proofs.text.put_text.Reads as reads
-use Rattle.writer.proofs.text.put_text.Lts as lts
-use Rattle.well_formed.proofs.total.Reads as total-reads
-use Rattle.writer.proofs.line.put_left.Reads as put-left-reads
-use Rattle.writer.proofs.line.put_rack.Reads as put-rack-reads
-use Rattle.writer.proofs.line.put_served.Reads as put-served-reads
-use Rattle.writer.proofs.text.put_disks.Reads as put-disks-reads
 
 abbrev called : tie.Start → WriteCall
 called start = callOf (start .args .rack) (start .args .films .now) (start .args .viewers .now) (start .args .counts .now) (start .args .leftfilms .now) (start .args .leftamounts .now) (start .args .left)
