@@ -1,9 +1,9 @@
--- `jugfjord::planning::numbers` gives the numbers of the answer, case by case.
+-- `planner::answer_numbers::numbers` gives the numbers of the answer, case by case.
 use mathlib.Core.Path.{sym, ap, _∙_}
 use Rattle.planner.specs.Answers.{numbersOf}
 use borrow.Author.Needs.{needs}
-use Rattle.jugfjord.proofs.planning.numbers.Statement.{statement}
-use Rattle.jugfjord.proofs.planning.numbers.Tie as tie
+use Rattle.planner.proofs.answer_numbers.numbers.Statement.{statement}
+use Rattle.planner.proofs.answer_numbers.numbers.Tie as tie
 
 enum-known-answer : tie.Need-enum-known-answer
 enum-known-answer c = search needs
