@@ -1,4 +1,7 @@
-// The vocabulary of film racks: slots, streams, the rack, and the limits of document 01.
+// The vocabulary of film racks: slots, streams, the rack, the limits of document 01, and 32-bit numbers in bytes.
+mod number;
+
+pub use number::number32;
 ghost use mathlib.Core.Path.{_≡_};
 ghost use Rattle.placement.specs.Rack.{inRange, rackAccepted};
 

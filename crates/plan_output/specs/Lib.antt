@@ -1,3 +1,4 @@
 pub mod Input
 pub mod Output
 pub mod KeepPromise
+pub mod OutputPromise

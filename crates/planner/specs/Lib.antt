@@ -4,3 +4,4 @@ pub mod Verdicts
 pub mod Search
 pub mod Copies
 pub mod Plannable
+pub mod Numbers

@@ -1,4 +1,5 @@
 // Planning: the bytes of a demand list to the lent tables, in steps of one module each.
+mod answer_numbers; // answer_numbers.rt: the numbers of an answer
 mod build; // build.rt: the list of the method from the records
 mod fill; // fill.rt: one disk filled, and all disks
 mod fulfil; // fulfil.rt: the plan of a list that is not refused
@@ -13,6 +14,9 @@ mod worklist; // worklist.rt: the list of the method as packed keys
 use fulfil::fill_tables;
 use judge::judge;
 use placement::Rack;
+
+pub use answer_numbers::PlanNumbers;
+pub use answer_numbers::numbers;
 ghost use Rattle.placement.specs.Tables.{tables};
 ghost use Rattle.placement.specs.PlanPromise.{PlanPromise};
 ghost use Rattle.planner.specs.Answers.{numbersOf};

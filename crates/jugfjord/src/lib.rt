@@ -1,0 +1,2 @@
+// The C library: numbers and slices in, structs of numbers out. A slice is a pointer and then a count.
+mod planning;

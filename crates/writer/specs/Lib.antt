@@ -1,0 +1,5 @@
+pub mod Space
+pub mod Call
+pub mod RefusalPromise
+pub mod WritePromise
+pub mod Answers
