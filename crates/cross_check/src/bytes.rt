@@ -1,4 +1,5 @@
 // The bytes of a case's list.
+ghost use Prim.Native.Nat.{_≤_};
 use crate::case::{Case, demand_of, film_of};
 
 // Stores a byte at place i, if there is such a place.
@@ -8,12 +9,17 @@ fn put(list: &mut [u8], i: usize, b: u8) {
     }
 }
 
+// The least significant byte of a number.
+fn low_byte(n: u32) -> u8 {
+    (n % 256) as u8
+}
+
 // Stores a number in four bytes from place i on, least significant first.
 fn put_number(list: &mut [u8], i: usize, n: u32) {
-    put(list, i, (n & 255) as u8);
-    put(list, i | 1, ((n >> 8) & 255) as u8);
-    put(list, i | 2, ((n >> 16) & 255) as u8);
-    put(list, i | 3, ((n >> 24) & 255) as u8);
+    put(list, i, low_byte(n));
+    put(list, i | 1, low_byte(n >> 8));
+    put(list, i | 2, low_byte(n >> 16));
+    put(list, i | 3, low_byte(n >> 24));
 }
 
 // Writes record i.
@@ -32,7 +38,9 @@ pub(crate) fn write_list(c: Case, list: &mut [u8]) {
 }
 
 // How many bytes the list has, or as many as there is space for.
-pub(crate) fn bytes_of(c: Case, space: usize) -> usize {
+pub(crate) fn bytes_of(c: Case, space: usize) -> usize
+    ensures { λ r. ⌜ r ≤ space ⌝ }
+{
     let bytes = ((c.records as usize) << 3) | (c.odd_bytes as usize);
     if bytes < space { bytes } else { space }
 }

@@ -129,6 +129,15 @@ fn with_fault(mut c: Case, fault: u32) -> Case {
     c
 }
 
+// A film number above 65,535: the first, or one that is film 5 in 16 bits.
+fn too_large(number: u64) -> u32 {
+    if draw(number, 14, 2) == 0 {
+        65_536
+    } else {
+        65_541
+    }
+}
+
 // The film number of record i.
 pub(crate) fn film_of(c: Case, i: u32) -> u32 {
     if i == c.no_film {
@@ -137,7 +146,7 @@ pub(crate) fn film_of(c: Case, i: u32) -> u32 {
     let way = draw(c.number, 12, 4);
     let start = from_to(c.number, 13, 1, 64_000);
     if i == c.large_film {
-        return 65_536 + draw(c.number, 14, 2) * 5;
+        return too_large(c.number);
     }
     if i == c.repeated {
         return film(way, start, draw(c.number, 15, i));

@@ -14,13 +14,18 @@ pub(crate) fn draw(case: u64, place: u64, most: u32) -> u32 {
         return 0;
     }
     let x = mix(mix(mix(mix((case << 16) | place))));
-    ((x >> 20) % (most as u64)) as u32
+    narrow((x >> 20) % (most as u64))
+}
+
+// A number of 64 bits in 32, or 0 where it does not fit.
+fn narrow(n: u64) -> u32 {
+    if n <= 4_294_967_295 { n as u32 } else { 0 }
 }
 
 // A number from `low` to `high`.
 pub(crate) fn from_to(case: u64, place: u64, low: u32, high: u32) -> u32 {
     if low < high {
-        low + draw(case, place, high - low + 1)
+        std::num::wrapping_add_u32(low, draw(case, place, std::num::wrapping_add_u32(high - low, 1)))
     } else {
         low
     }

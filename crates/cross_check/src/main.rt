@@ -1,8 +1,10 @@
 // Runs the proved planner and the plain planner on many racks and lists, compares every place of every table and every number
 // of the answers, and prints how many cases ran, how many were refused, what was served and left in all, and how many differ.
+mod answer;
 mod bytes;
 mod case;
 mod draw;
+mod lend;
 mod run;
 mod tables;
 

@@ -33,10 +33,17 @@ pub(crate) fn length_of(c: Case, table: u32, needed: u32, space: usize) -> usize
     if length < space { length } else { space }
 }
 
+// Stores v at place i, if there is such a place.
+fn put(s: &mut [u32], i: usize, v: u32) {
+    if i < s.len() {
+        s[i] = v;
+    }
+}
+
 // Puts v in every place.
 fn fill(s: &mut [u32], v: u32) {
     for i in 0..s.len() {
-        s[i] = v;
+        put(s, i, v);
     }
 }
 
