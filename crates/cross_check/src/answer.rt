@@ -1,6 +1,8 @@
 // The planners' answers on a case, in 01's numbers.
 use crate::case::Case;
-use placement::{Rack, Slots, Streams};
+use placement::Rack;
+use placement::Slots;
+use placement::Streams;
 use plain_planner::Outcome;
 use planner::Answer;
 
@@ -84,7 +86,17 @@ fn plain_answer(
     left_films: &mut [u32],
     left_amounts: &mut [u32],
 ) -> Outcome {
-    plain_planner::plan(c.disks, c.slots, c.load, list, films, viewers, counts, left_films, left_amounts)
+    plain_planner::plan(
+        c.disks,
+        c.slots,
+        c.load,
+        list,
+        films,
+        viewers,
+        counts,
+        left_films,
+        left_amounts,
+    )
 }
 
 // What the proved or the plain planner answers on a case.

@@ -1,6 +1,8 @@
 // The bytes of a case's list.
 ghost use Prim.Native.Nat.{_≤_};
-use crate::case::{Case, demand_of, film_of};
+use crate::case::Case;
+use crate::case::demand_of;
+use crate::case::film_of;
 
 // Stores a byte at place i, if there is such a place.
 fn put(list: &mut [u8], i: usize, b: u8) {

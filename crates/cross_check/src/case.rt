@@ -1,5 +1,7 @@
 // The cases: racks and lists of ten families, and faults for those that are to be refused.
-use crate::draw::{draw, film, from_to};
+use crate::draw::draw;
+use crate::draw::film;
+use crate::draw::from_to;
 
 // A case: the rack, what its records are drawn from, and its faults. A place of a fault is that of a record, from 0.
 pub(crate) struct Case {
@@ -24,7 +26,15 @@ pub(crate) struct Case {
 const NOWHERE: u32 = 100_000;
 
 // A case of so many records at most, with demands of low to high, and no fault.
-fn plain(number: u64, most_disks: u32, most_slots: u32, most_load: u32, most_records: u32, low: u32, high: u32) -> Case {
+fn plain(
+    number: u64,
+    most_disks: u32,
+    most_slots: u32,
+    most_load: u32,
+    most_records: u32,
+    low: u32,
+    high: u32,
+) -> Case {
     Case {
         number,
         disks: from_to(number, 0, 1, most_disks),

@@ -25,7 +25,10 @@ fn narrow(n: u64) -> u32 {
 // A number from `low` to `high`.
 pub(crate) fn from_to(case: u64, place: u64, low: u32, high: u32) -> u32 {
     if low < high {
-        std::num::wrapping_add_u32(low, draw(case, place, std::num::wrapping_add_u32(high - low, 1)))
+        std::num::wrapping_add_u32(
+            low,
+            draw(case, place, std::num::wrapping_add_u32(high - low, 1)),
+        )
     } else {
         low
     }

@@ -9,7 +9,8 @@ mod run;
 mod tables;
 
 use libc::STDOUT_FILENO;
-use run::{Tally, run_cases};
+use run::Tally;
+use run::run_cases;
 
 // How many cases are run.
 const CASES: u64 = 25_000;
@@ -31,29 +32,5 @@ fn print_tally(t: Tally) {
 }
 
 fn main() {
-    let mut list = [0u8; 8400];
-    let mut films = [0u32; 2100];
-    let mut viewers = [0u32; 2100];
-    let mut counts = [0u32; 80];
-    let mut left_films = [0u32; 1040];
-    let mut left_amounts = [0u32; 1040];
-    let mut plain_films = [0u32; 2100];
-    let mut plain_viewers = [0u32; 2100];
-    let mut plain_counts = [0u32; 80];
-    let mut plain_left_films = [0u32; 1040];
-    let mut plain_left_amounts = [0u32; 1040];
-    print_tally(run_cases(
-        CASES,
-        &mut list,
-        &mut films,
-        &mut viewers,
-        &mut counts,
-        &mut left_films,
-        &mut left_amounts,
-        &mut plain_films,
-        &mut plain_viewers,
-        &mut plain_counts,
-        &mut plain_left_films,
-        &mut plain_left_amounts,
-    ));
+    print_tally(run_cases(CASES));
 }

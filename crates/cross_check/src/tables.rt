@@ -33,36 +33,6 @@ pub(crate) fn length_of(c: Case, table: u32, needed: u32, space: usize) -> usize
     if length < space { length } else { space }
 }
 
-// Stores v at place i, if there is such a place.
-fn put(s: &mut [u32], i: usize, v: u32) {
-    if i < s.len() {
-        s[i] = v;
-    }
-}
-
-// Puts v in every place.
-fn fill(s: &mut [u32], v: u32) {
-    for i in 0..s.len() {
-        put(s, i, v);
-    }
-}
-
-// Puts v in every place of five tables.
-pub(crate) fn fill_tables(
-    v: u32,
-    films: &mut [u32],
-    viewers: &mut [u32],
-    counts: &mut [u32],
-    left_films: &mut [u32],
-    left_amounts: &mut [u32],
-) {
-    fill(films, v);
-    fill(viewers, v);
-    fill(counts, v);
-    fill(left_films, v);
-    fill(left_amounts, v);
-}
-
 // The number at place i, or 0 past the end.
 fn at(s: &[u32], i: usize) -> u32 {
     if i < s.len() { s[i] } else { 0 }

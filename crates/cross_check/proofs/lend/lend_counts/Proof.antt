@@ -1,6 +1,6 @@
--- `cross_check::lend_counts` is safe and ends. Assumes nothing.
-use Prim.Native.Nat.{_≤_, _-_}
-use borrow.Author.Needs.{needs}
+-- `cross_check::lend_counts` is safe: each part that it lends is no longer than its table. Assumes nothing.
+use mathlib.Core.Path.{sym}
+use lib.Seq.{length-take-le}
 use borrow.Author.Needs.{needs}
 use Rattle.cross_check.proofs.lend.lend_counts.Statement.{statement}
 use Rattle.cross_check.proofs.lend.lend_counts.Tie as tie
@@ -18,19 +18,19 @@ slice-relend-prefix-answer : tie.Need-slice-relend-prefix-answer
 slice-relend-prefix-answer c = search needs
 
 slice-aggregate-answer : tie.Need-slice-aggregate-answer
-slice-aggregate-answer c = search needs
+slice-aggregate-answer c = sym (length-take-le _ _ (search needs))
 
 slice-relend-prefix-answer-2 : tie.Need-slice-relend-prefix-answer-2
 slice-relend-prefix-answer-2 c = search needs
 
 slice-aggregate-answer-2 : tie.Need-slice-aggregate-answer-2
-slice-aggregate-answer-2 c = search needs
+slice-aggregate-answer-2 c = sym (length-take-le _ _ (search needs))
 
 slice-relend-prefix-answer-3 : tie.Need-slice-relend-prefix-answer-3
 slice-relend-prefix-answer-3 c = search needs
 
 slice-aggregate-answer-3 : tie.Need-slice-aggregate-answer-3
-slice-aggregate-answer-3 c = search needs
+slice-aggregate-answer-3 c = sym (length-take-le _ _ (search needs))
 
 answer-requires : tie.Need-answer-requires
 answer-requires c κs = search needs
