@@ -28,32 +28,29 @@ const BYTES: usize = 8_400;
 // What every place of the tables holds before a run: a number that no plan has.
 const UNUSED: u32 = 3_000_000_000;
 
-// Whether five tables are the same as five others.
-fn same_tables(
+// Whether two copy tables are the same.
+fn same_copies(
     films: &[u32; COPIES],
     viewers: &[u32; COPIES],
-    counts: &[u32; DISKS],
-    left_films: &[u32; LEFT],
-    left_amounts: &[u32; LEFT],
-    plain_films: &[u32; COPIES],
-    plain_viewers: &[u32; COPIES],
-    plain_counts: &[u32; DISKS],
-    plain_left_films: &[u32; LEFT],
-    plain_left_amounts: &[u32; LEFT],
+    others: &[u32; COPIES],
+    other_viewers: &[u32; COPIES],
 ) -> bool {
-    if !same(films, plain_films) {
-        return false;
-    }
-    if !same(viewers, plain_viewers) {
-        return false;
-    }
-    if !same(counts, plain_counts) {
-        return false;
-    }
-    if !same(left_films, plain_left_films) {
-        return false;
-    }
-    same(left_amounts, plain_left_amounts)
+    same(films, others) & same(viewers, other_viewers)
+}
+
+// Whether two count tables are the same.
+fn same_counts(counts: &[u32; DISKS], others: &[u32; DISKS]) -> bool {
+    same(counts, others)
+}
+
+// Whether two left tables are the same.
+fn same_left(
+    films: &[u32; LEFT],
+    amounts: &[u32; LEFT],
+    others: &[u32; LEFT],
+    other_amounts: &[u32; LEFT],
+) -> bool {
+    same(films, others) & same(amounts, other_amounts)
 }
 
 // The tally with a case more, whose tables are alike or not.
@@ -84,28 +81,23 @@ fn one_more(n: u64, so: bool) -> u64 {
     }
 }
 
-// Runs a case on both planners, from tables filled alike, and counts it.
-fn run_case(t: Tally, c: Case, list: &[u8]) -> Tally {
-    let mut films = [UNUSED; COPIES];
-    let mut viewers = [UNUSED; COPIES];
-    let mut counts = [UNUSED; DISKS];
-    let mut left_films = [UNUSED; LEFT];
-    let mut left_amounts = [UNUSED; LEFT];
-    let proved = run_planner(
-        true,
-        c,
-        list,
-        &mut films,
-        &mut viewers,
-        &mut counts,
-        &mut left_films,
-        &mut left_amounts,
-    );
+// Runs the plain planner on a case, compares it with the proved one's answer and tables, and counts the case.
+fn compare(
+    t: Tally,
+    c: Case,
+    list: &[u8],
+    proved: Outcome,
+    films: &[u32; COPIES],
+    viewers: &[u32; COPIES],
+    counts: &[u32; DISKS],
+    left: &[u32; LEFT],
+    amounts: &[u32; LEFT],
+) -> Tally {
     let mut plain_films = [UNUSED; COPIES];
     let mut plain_viewers = [UNUSED; COPIES];
     let mut plain_counts = [UNUSED; DISKS];
-    let mut plain_left_films = [UNUSED; LEFT];
-    let mut plain_left_amounts = [UNUSED; LEFT];
+    let mut plain_left = [UNUSED; LEFT];
+    let mut plain_amounts = [UNUSED; LEFT];
     let plain = run_planner(
         false,
         c,
@@ -113,22 +105,43 @@ fn run_case(t: Tally, c: Case, list: &[u8]) -> Tally {
         &mut plain_films,
         &mut plain_viewers,
         &mut plain_counts,
-        &mut plain_left_films,
-        &mut plain_left_amounts,
+        &mut plain_left,
+        &mut plain_amounts,
     );
-    let alike = same_tables(
+    let copies_alike = same_copies(films, viewers, &plain_films, &plain_viewers);
+    let counts_alike = same_counts(counts, &plain_counts);
+    let left_alike = same_left(left, amounts, &plain_left, &plain_amounts);
+    counted(t, proved, plain, copies_alike & counts_alike & left_alike)
+}
+
+// Runs a case on both planners, from tables filled alike, and counts it.
+fn run_case(t: Tally, c: Case, list: &[u8]) -> Tally {
+    let mut films = [UNUSED; COPIES];
+    let mut viewers = [UNUSED; COPIES];
+    let mut counts = [UNUSED; DISKS];
+    let mut left = [UNUSED; LEFT];
+    let mut amounts = [UNUSED; LEFT];
+    let proved = run_planner(
+        true,
+        c,
+        list,
+        &mut films,
+        &mut viewers,
+        &mut counts,
+        &mut left,
+        &mut amounts,
+    );
+    compare(
+        t,
+        c,
+        list,
+        proved,
         &films,
         &viewers,
         &counts,
-        &left_films,
-        &left_amounts,
-        &plain_films,
-        &plain_viewers,
-        &plain_counts,
-        &plain_left_films,
-        &plain_left_amounts,
-    );
-    counted(t, proved, plain, alike)
+        &left,
+        &amounts,
+    )
 }
 
 // Makes the case of a number, runs it and counts it.

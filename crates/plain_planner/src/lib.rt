@@ -25,6 +25,17 @@ pub struct Outcome {
     pub left: u32,
 }
 
+// A refusal, zero for the rest.
+fn declined(refusal: u32, position: u32) -> Outcome {
+    Outcome {
+        refusal,
+        position,
+        served: 0,
+        unserved: 0,
+        left: 0,
+    }
+}
+
 // Plans the list on a rack of equal disks, with the five tables, or refuses it.
 pub fn plan(
     disks: u32,
@@ -41,13 +52,7 @@ pub fn plan(
     let lefts = least(left_films.len(), left_amounts.len());
     let refused = first_refusal(disks, slots, load, list, copies, counts.len(), lefts);
     if refused.number != 0 {
-        return Outcome {
-            refusal: refused.number,
-            position: refused.position,
-            served: 0,
-            unserved: 0,
-            left: 0,
-        };
+        return declined(refused.number, refused.position);
     }
     let mut film = [0u32; 1024];
     let mut rest = [0u32; 1024];
