@@ -1,9 +1,8 @@
-#!/usr/bin/env python3
 """Prints what the program cross_check has to print, from a generator and a planner written here from document 01's words alone.
 
 The generator draws the same cases as the program does. The planner shares nothing with the program: the list is a sorted
 Python list of (demand, film), and a split film is inserted anew. The last line states what the comparison has to find.
-Usage: tools/cross_check_expected.py > crates/cross_check/stdout
+Usage: python3 tools/cross_check_expected.py > crates/cross_check/stdout
 With the argument --families the refusals by number and the plans by family go to standard error.
 """
 import bisect

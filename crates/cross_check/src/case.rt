@@ -112,6 +112,7 @@ pub(crate) fn case_of(number: u64) -> Case {
     }
 }
 
+// The case with two faults, of which the first in 01's order decides.
 fn with_two_faults(c: Case) -> Case {
     let first = draw(c.number, 6, 15);
     let second = draw(c.number, 7, 15);

@@ -34,7 +34,7 @@ pub(crate) fn from_to(case: u64, place: u64, low: u32, high: u32) -> u32 {
     }
 }
 
-// A film number for place i of a list, no two alike below 1,100: four ways to go through the numbers.
+// A film number for place i of a list, no two alike below 1,100: upwards from a start, downwards from 65,535, or shuffled.
 pub(crate) fn film(way: u32, start: u32, i: u32) -> u32 {
     let n = std::num::wrapping_add_u32(start, i);
     match way {

@@ -31,6 +31,7 @@ fn print_tally(t: Tally) {
     print_line(b"differ ", t.differ);
 }
 
+// Runs all cases and writes the tally.
 fn main() {
     print_tally(run_cases(CASES));
 }

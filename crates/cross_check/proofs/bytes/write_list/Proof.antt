@@ -35,4 +35,5 @@ returns c = search needs
 
 pub write-list-spec : {M : Type 1} → statement M
 write-list-spec =
-    tie.close (tie.spec Inv-loop μ-loop loop-holds write-record-requires add-i loop-less loop-again same-length returns)
+    tie.close (tie.spec Inv-loop μ-loop loop-holds write-record-requires add-i loop-less loop-again
+    same-length returns)

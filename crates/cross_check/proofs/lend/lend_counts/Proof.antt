@@ -55,4 +55,7 @@ returns c = search needs
 
 pub lend-counts-spec : {M : Type 1} → statement M
 lend-counts-spec =
-    tie.close (tie.spec length-of-requires length-of-requires-2 length-of-requires-3 slice-relend-prefix-answer slice-aggregate-answer slice-relend-prefix-answer-2 slice-aggregate-answer-2 slice-relend-prefix-answer-3 slice-aggregate-answer-3 answer-requires same-length same-length-2 same-length-3 same-length-4 same-length-5 returns)
+    tie.close (tie.spec length-of-requires length-of-requires-2 length-of-requires-3
+    slice-relend-prefix-answer slice-aggregate-answer slice-relend-prefix-answer-2
+    slice-aggregate-answer-2 slice-relend-prefix-answer-3 slice-aggregate-answer-3 answer-requires
+    same-length same-length-2 same-length-3 same-length-4 same-length-5 returns)

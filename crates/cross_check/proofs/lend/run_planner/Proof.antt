@@ -55,4 +55,7 @@ returns c = search needs
 
 pub run-planner-spec : {M : Type 1} → statement M
 run-planner-spec =
-    tie.close (tie.spec copy-places-requires bytes-of-requires length-of-requires length-of-requires-2 slice-aggregate-lend-counts slice-relend-prefix-lend-counts slice-aggregate-lend-counts-2 slice-relend-prefix-lend-counts-2 slice-aggregate-lend-counts-3 lend-counts-requires same-length same-length-2 same-length-3 same-length-4 same-length-5 returns)
+    tie.close (tie.spec copy-places-requires bytes-of-requires length-of-requires length-of-requires-2
+    slice-aggregate-lend-counts slice-relend-prefix-lend-counts slice-aggregate-lend-counts-2
+    slice-relend-prefix-lend-counts-2 slice-aggregate-lend-counts-3 lend-counts-requires same-length
+    same-length-2 same-length-3 same-length-4 same-length-5 returns)

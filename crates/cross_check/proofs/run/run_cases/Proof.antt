@@ -30,4 +30,5 @@ returns c = search needs
 
 pub run-cases-spec : {M : Type 1} → statement M
 run-cases-spec =
-    tie.close (tie.spec Inv-loop μ-loop loop-holds run-number-requires add-number loop-less loop-again returns)
+    tie.close (tie.spec Inv-loop μ-loop loop-holds run-number-requires add-number loop-less loop-again
+    returns)

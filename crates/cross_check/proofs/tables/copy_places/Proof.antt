@@ -30,4 +30,5 @@ returns c = search needs
 
 pub copy-places-spec : {M : Type 1} → statement M
 copy-places-spec =
-    tie.close (tie.spec Inv-loop μ-loop loop-holds wrapping-add-u32-requires add-counter loop-less loop-again returns)
+    tie.close (tie.spec Inv-loop μ-loop loop-holds wrapping-add-u32-requires add-counter loop-less
+    loop-again returns)

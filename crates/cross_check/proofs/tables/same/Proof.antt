@@ -36,4 +36,5 @@ returns-2 c = search needs
 
 pub same-spec : {M : Type 1} → statement M
 same-spec =
-    tie.close (tie.spec Inv-loop μ-loop loop-holds at-requires at-requires-2 returns add-i loop-less loop-again returns-2)
+    tie.close (tie.spec Inv-loop μ-loop loop-holds at-requires at-requires-2 returns add-i loop-less
+    loop-again returns-2)

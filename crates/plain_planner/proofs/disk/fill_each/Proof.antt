@@ -7,10 +7,14 @@ use Rattle.plain_planner.proofs.disk.fill_each.Statement.{statement}
 use Rattle.plain_planner.proofs.disk.fill_each.Tie as tie
 
 abbrev Inv-loop : tie.InvT-loop
-Inv-loop disks k load records film rest₀ order₀ films₀ viewers₀ counts₀ place₀ d₀ rest order films viewers counts place d = (d ≤ disks) × (length rest ≡ length rest₀) × (length order ≡ length order₀) × (length films ≡ length films₀) × (length viewers ≡ length viewers₀) × (length counts ≡ length counts₀)
+Inv-loop disks k load records film rest₀ order₀ films₀ viewers₀ counts₀ place₀ d₀ rest order films viewers counts place d =
+    (d ≤ disks) × (length rest ≡ length rest₀) × (length order ≡ length order₀) ×
+    (length films ≡ length films₀) × (length viewers ≡ length viewers₀) ×
+    (length counts ≡ length counts₀)
 
 abbrev μ-loop : tie.MeasureT-loop
-μ-loop disks k load records film rest₀ order₀ films₀ viewers₀ counts₀ place₀ d₀ rest order films viewers counts place d = disks - d
+μ-loop disks k load records film rest₀ order₀ films₀ viewers₀ counts₀ place₀ d₀ rest order films viewers counts place d =
+    disks - d
 
 loop-holds : tie.Need-loop-holds Inv-loop μ-loop
 loop-holds c = search needs
@@ -53,4 +57,5 @@ returns c = search needs
 
 pub fill-each-spec : {M : Type 1} → statement M
 fill-each-spec =
-    tie.close (tie.spec Inv-loop μ-loop loop-holds fill-disk-requires put-requires plus-requires add-d loop-less loop-again same-length same-length-2 same-length-3 same-length-4 same-length-5 returns)
+    tie.close (tie.spec Inv-loop μ-loop loop-holds fill-disk-requires put-requires plus-requires add-d
+    loop-less loop-again same-length same-length-2 same-length-3 same-length-4 same-length-5 returns)

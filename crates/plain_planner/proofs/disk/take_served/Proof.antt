@@ -50,4 +50,5 @@ returns c = search needs
 
 pub take-served-spec : {M : Type 1} → statement M
 take-served-spec =
-    tie.close (tie.spec Inv-loop μ-loop loop-holds plus-requires at-requires wide-requires plus-requires-2 at-requires-2 take-requires add-j loop-less loop-again same-length returns)
+    tie.close (tie.spec Inv-loop μ-loop loop-holds plus-requires at-requires wide-requires
+    plus-requires-2 at-requires-2 take-requires add-j loop-less loop-again same-length returns)

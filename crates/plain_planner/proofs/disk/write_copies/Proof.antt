@@ -7,7 +7,8 @@ use Rattle.plain_planner.proofs.disk.write_copies.Statement.{statement}
 use Rattle.plain_planner.proofs.disk.write_copies.Tie as tie
 
 abbrev Inv-loop : tie.InvT-loop
-Inv-loop film rest order start width load place films₀ viewers₀ j₀ films viewers j = (j ≤ width) × (length films ≡ length films₀) × (length viewers ≡ length viewers₀)
+Inv-loop film rest order start width load place films₀ viewers₀ j₀ films viewers j =
+    (j ≤ width) × (length films ≡ length films₀) × (length viewers ≡ length viewers₀)
 
 abbrev μ-loop : tie.MeasureT-loop
 μ-loop film rest order start width load place films₀ viewers₀ j₀ films viewers j = width - j
@@ -62,4 +63,6 @@ returns c = search needs
 
 pub write-copies-spec : {M : Type 1} → statement M
 write-copies-spec =
-    tie.close (tie.spec Inv-loop μ-loop loop-holds plus-requires plus-requires-2 at-requires wide-requires at-requires-2 put-requires plus-requires-3 viewers-of-requires put-requires-2 add-j loop-less loop-again same-length same-length-2 returns)
+    tie.close (tie.spec Inv-loop μ-loop loop-holds plus-requires plus-requires-2 at-requires
+    wide-requires at-requires-2 put-requires plus-requires-3 viewers-of-requires put-requires-2 add-j
+    loop-less loop-again same-length same-length-2 returns)

@@ -35,4 +35,5 @@ returns c = search needs
 
 pub clear-spec : {M : Type 1} → statement M
 clear-spec =
-    tie.close (tie.spec Inv-loop μ-loop loop-holds put-requires add-i loop-less loop-again same-length returns)
+    tie.close (tie.spec Inv-loop μ-loop loop-holds put-requires add-i loop-less loop-again same-length
+    returns)

@@ -33,4 +33,5 @@ returns c = search needs
 
 pub places-spec : {M : Type 1} → statement M
 places-spec =
-    tie.close (tie.spec Inv-loop μ-loop loop-holds wide-requires plus-requires add-counter loop-less loop-again returns)
+    tie.close (tie.spec Inv-loop μ-loop loop-holds wide-requires plus-requires add-counter loop-less
+    loop-again returns)

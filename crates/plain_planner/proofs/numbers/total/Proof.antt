@@ -33,4 +33,5 @@ returns c = search needs
 
 pub total-spec : {M : Type 1} → statement M
 total-spec =
-    tie.close (tie.spec Inv-loop μ-loop loop-holds at-requires more-requires add-i loop-less loop-again returns)
+    tie.close (tie.spec Inv-loop μ-loop loop-holds at-requires more-requires add-i loop-less loop-again
+    returns)

@@ -33,4 +33,5 @@ returns-2 c = search needs
 
 pub first-refused-spec : {M : Type 1} → statement M
 first-refused-spec =
-    tie.close (tie.spec Inv-loop μ-loop loop-holds record-refusal-requires returns add-i loop-less loop-again returns-2)
+    tie.close (tie.spec Inv-loop μ-loop loop-holds record-refusal-requires returns add-i loop-less
+    loop-again returns-2)

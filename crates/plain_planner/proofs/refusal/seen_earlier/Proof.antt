@@ -36,4 +36,5 @@ returns-2 c = search needs
 
 pub seen-earlier-spec : {M : Type 1} → statement M
 seen-earlier-spec =
-    tie.close (tie.spec Inv-loop μ-loop loop-holds film-of-requires film-of-requires-2 returns add-j loop-less loop-again returns-2)
+    tie.close (tie.spec Inv-loop μ-loop loop-holds film-of-requires film-of-requires-2 returns add-j
+    loop-less loop-again returns-2)

@@ -36,4 +36,5 @@ returns c = search needs
 
 pub demand-from-spec : {M : Type 1} → statement M
 demand-from-spec =
-    tie.close (tie.spec Inv-loop μ-loop loop-holds plus-requires demand-at-requires more-requires add-j loop-less loop-again returns)
+    tie.close (tie.spec Inv-loop μ-loop loop-holds plus-requires demand-at-requires more-requires add-j
+    loop-less loop-again returns)

@@ -42,4 +42,5 @@ returns-3 c = search needs
 
 pub opening-spec : {M : Type 1} → statement M
 opening-spec =
-    tie.close (tie.spec Inv-loop μ-loop loop-holds returns add-reaches reaches-requires add-result returns-2 add-j loop-less loop-again returns-3)
+    tie.close (tie.spec Inv-loop μ-loop loop-holds returns add-reaches reaches-requires add-result
+    returns-2 add-j loop-less loop-again returns-3)

@@ -39,4 +39,5 @@ returns-3 c = search needs
 
 pub sliding-spec : {M : Type 1} → statement M
 sliding-spec =
-    tie.close (tie.spec Inv-loop μ-loop loop-holds sub-if1 returns reaches-requires returns-2 add-start loop-less loop-again returns-3)
+    tie.close (tie.spec Inv-loop μ-loop loop-holds sub-if1 returns reaches-requires returns-2 add-start
+    loop-less loop-again returns-3)
