@@ -13,6 +13,7 @@ use Rattle.placement.specs.Planning.{Call, recordCount, recordsIn, roomF
 use Rattle.placement.specs.WellFormed.{Accepted, CallInRange}
 use Rattle.placement.proofs.Verdicts.{unless-planned, both-true, inRange-bounds, records-accepted}
 
+-- n records from a place on are n.
 recordsFrom-length : (bytes : List ℕ) (i n : ℕ) → length (recordsFrom bytes i n) ≡ n
 recordsFrom-length bytes i zero = refl
 recordsFrom-length bytes i (suc n) = ap suc (recordsFrom-length bytes (suc i) n)
@@ -22,7 +23,7 @@ pub recordsIn-length : (c : Call) → length (recordsIn c) ≡ recordCount c
 recordsIn-length c = recordsFrom-length (c .list) 0 (recordCount c)
 
 module _ (c : Call) (t : Tables) where
-  -- The verdict from the tests after the rack's, the length's, the count's and the room's on.
+  -- The verdict from the test of the room on, from that of the count on, and from that of the length on.
   abbrev fromRoom : Verdict
   fromRoom = unless (roomFor c t) (refused 7 0) (judgeRecords [] 1 (recordsIn c))
 
@@ -33,9 +34,11 @@ module _ (c : Call) (t : Tables) where
   fromLength = unless (eqb (length (c .list) % 8) 0) (refused 2 0) fromCount
 
   module _ (e : verdict c t ≡ planned) where
+    -- The rack is accepted.
     rack-passed : (rackAccepted (c .disks) (c .slots) (c .streams) ≡ true) × (fromLength ≡ planned)
     rack-passed = unless-planned (rackAccepted (c .disks) (c .slots) (c .streams)) 1 0 fromLength e
 
+    -- There are not too many records.
     count-passed : (leb (recordCount c) mostRecords ≡ true) × (fromRoom ≡ planned)
     count-passed =
         unless-planned (leb (recordCount c) mostRecords) 3 0 fromRoom

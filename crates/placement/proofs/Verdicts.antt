@@ -52,6 +52,7 @@ module _ (earlier : List Item) (position : ℕ) (x : Item) (xs : List Item) wher
   abbrev fromDemand : Verdict
   fromDemand = unless (leb (x .amount) mostDemand) (refused 5 position) fromSeen
 
+  -- A record that leads to a plan has no fault.
   judged : judgeRecords earlier position (x ∷ xs) ≡ planned → Judged earlier position x xs
   judged e = record {
     demanded = record {
@@ -74,12 +75,14 @@ module _ (earlier : List Item) (position : ℕ) (x : Item) (xs : List Item) wher
           unless-planned (eqb (occurrences (x .film) earlier) 0) 6 position (judgeRecords (x ∷ earlier) (suc position) xs)
           (second .1)
 
+-- Records that lead to a plan are in range.
 records-demanded : (earlier : List Item) (position : ℕ) (xs : List Item) → judgeRecords earlier position xs ≡ planned → Each Demanded xs
 records-demanded earlier position [] e = tt
 records-demanded earlier position (x ∷ xs) e =
     (judged earlier position x xs e .demanded, records-demanded (x ∷ earlier) (suc position) xs (judged earlier position x xs e .later))
 
-oneIf-le : (f : ℕ) (x : Item) → oneIf f x ≤ 1
+-- An item counts at most once.
+pub oneIf-le : (f : ℕ) (x : Item) → oneIf f x ≤ 1
 oneIf-le f x = go (eqb f (x .film))
   where
     go : (b : Bool) → cond b 1 0 ≤ 1
@@ -87,12 +90,13 @@ oneIf-le f x = go (eqb f (x .film))
     go false = omega arith
 
 -- A new film keeps films distinct.
-distinct-new : (x : Item) (xs : List Item) → occurrences (x .film) xs ≡ 0 → Distinct xs → Distinct (x ∷ xs)
+pub distinct-new : (x : Item) (xs : List Item) → occurrences (x .film) xs ≡ 0 → Distinct xs → Distinct (x ∷ xs)
 distinct-new x xs new distinct f =
     by-order 0 (oneIf f x)
     (λ here. omega (arith, oneIf-le f x, subst (λ (g : ℕ). occurrences g xs ≡ 0) (sym (same-film f x here)) new))
     (λ none. omega (arith, distinct f))
 
+-- No film of them stands in an earlier one.
 records-distinct :
     (earlier : List Item) (position : ℕ) (xs : List Item) → judgeRecords earlier position xs ≡ planned → Distinct earlier
     → (f : ℕ) → occurrences f earlier + occurrences f xs ≤ 1

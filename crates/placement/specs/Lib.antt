@@ -10,4 +10,5 @@ pub mod Held
 pub mod Planning
 pub mod Promise
 pub mod WellFormed
+pub mod PlanPromise
 pub mod Cases

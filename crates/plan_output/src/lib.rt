@@ -1,0 +1,5 @@
+// What the program `plan` prints: one function from the bytes of its input to the bytes of its output.
+mod input;
+
+pub use input::MOST_KEPT;
+pub use input::keep;

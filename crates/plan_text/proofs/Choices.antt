@@ -1,0 +1,25 @@
+-- Conjunctions of tests, and choices by a test that is decided.
+use mathlib.Core.Path.{_≡_, refl, ap, sym, subst}
+use mathlib.Core.Bool.{Bool, true, false, cond, _&&_}
+
+pub false-true : {P : Type 0} → false ≡ true → P
+false-true e = absurd (subst (λ (b : Bool). cond b ⊥ (Unit {0})) e tt)
+
+-- Both tests hold, where their conjunction does.
+pub and-left : (a b : Bool) → (a && b) ≡ true → a ≡ true
+and-left true b e = refl
+and-left false b e = e
+
+pub and-right : (a b : Bool) → (a && b) ≡ true → b ≡ true
+and-right true b e = e
+and-right false b e = false-true e
+
+pub and-true : (a b : Bool) → a ≡ true → b ≡ true → (a && b) ≡ true
+and-true true b p q = q
+and-true false b p q = p
+
+pub cond-true : {A : Type 0} (b : Bool) (x y : A) → b ≡ true → cond b x y ≡ x
+cond-true b x y e = ap (λ (c : Bool). cond c x y) e
+
+pub cond-false : {A : Type 0} (b : Bool) (x y : A) → b ≡ false → cond b x y ≡ y
+cond-false b x y e = ap (λ (c : Bool). cond c x y) e

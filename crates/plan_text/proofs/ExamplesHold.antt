@@ -1,0 +1,59 @@
+-- The examples, proved by computation on the definitions.
+use mathlib.Core.Path.{_≡_, refl}
+use mathlib.Core.Bool.{true}
+use Prim.Native.Nat.{ℕ}
+use mathlib.Core.List.{List, map}
+use Rattle.placement.specs.Tables.{Tables}
+use Rattle.plan_text.specs.Decimal.{decimal}
+use Rattle.plan_text.specs.Plan.{wellFormed}
+use Rattle.plan_text.specs.Text.{textOf}
+use Rattle.plan_text.specs.Reading.{planRead}
+use Rattle.plan_text.specs.ReadCall.{ReadNumbers, judging}
+use Rattle.plan_text.specs.ReadCall.{reading, tablesAfterReading}
+use Rattle.plan_text.specs.WriteCall.{WriteNumbers, writing, spaceAfter}
+use Rattle.plan_text.specs.CallExamples.{Writing, writings, Taking, takings}
+use Rattle.plan_text.specs.Examples.{Example, accepted, refusedAtLine1, refusedAtLine2, refusedLater, caseAText, caseAPlan}
+
+abbrev judgement : Example → ReadNumbers
+judgement e = judging (e .text)
+
+abbrev expected : Example → ReadNumbers
+expected e = e .numbers
+
+-- The text of case A is that of its plan, which is well formed.
+pub caseA-text : (textOf caseAPlan ≡ caseAText) × (wellFormed caseAPlan ≡ true)
+unfolding textOf decimal
+caseA-text = (refl, refl)
+
+-- Every example's judgement is the one expected.
+pub accepted-hold : map judgement accepted ≡ map expected accepted
+unfolding judging planRead decimal
+accepted-hold = refl
+
+pub refusedAtLine1-hold : map judgement refusedAtLine1 ≡ map expected refusedAtLine1
+unfolding judging planRead decimal
+refusedAtLine1-hold = refl
+
+pub refusedAtLine2-hold : map judgement refusedAtLine2 ≡ map expected refusedAtLine2
+unfolding judging planRead decimal
+refusedAtLine2-hold = refl
+
+pub refusedLater-hold : map judgement refusedLater ≡ map expected refusedLater
+unfolding judging planRead decimal
+refusedLater-hold = refl
+
+-- What the definitions give for a call of writing: the answer and the space afterwards.
+abbrev written : Writing → WriteNumbers × List ℕ
+written w = (writing (w .asked) (w .room), spaceAfter (w .asked) (w .room))
+
+pub writings-hold : map written writings ≡ map (λ (w : Writing). (w .numbers, w .after)) writings
+unfolding writing spaceAfter textOf decimal
+writings-hold = refl
+
+-- What they give for a call of reading: the answer and the tables afterwards.
+abbrev taken : Taking → ReadNumbers × Tables
+taken r = (reading (r .text) (r .lent), tablesAfterReading (r .text) (r .lent))
+
+pub takings-hold : map taken takings ≡ map (λ (r : Taking). (r .numbers, r .after)) takings
+unfolding reading tablesAfterReading planRead decimal
+takings-hold = refl

@@ -1,0 +1,11 @@
+-- The same reading with numbers that stop at 2³² − 1.
+use Prim.Native.Nat.{ℕ, min}
+use mathlib.Core.List.{List}
+use Rattle.plan_text.specs.Plan.{Plan}
+use Rattle.plan_text.specs.Reading.{Reading, planReadWith}
+
+abbrev pub saturated : ℕ → ℕ
+saturated n = min n 4294967295
+
+unfoldable pub planReadCapped : List ℕ → Reading Plan
+planReadCapped text = planReadWith saturated text

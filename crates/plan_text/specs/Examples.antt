@@ -1,0 +1,110 @@
+-- Texts and what their judgement is, as one table: case A of document 01, its edges, and texts that are refused at a line.
+use Prim.Native.Nat.{ℕ}
+use Prim.Native.String.{String}
+use mathlib.Core.List.{List, [], _∷_, map}
+use Rattle.placement.specs.Items.{Item, item}
+use Rattle.plan_text.specs.Ascii.{ascii}
+use Rattle.plan_text.specs.Plan.{Plan}
+use Rattle.plan_text.specs.Text.{lines}
+use Rattle.plan_text.specs.ReadCall.{ReadNumbers}
+
+-- Lines, each ended by a line feed.
+abbrev pub ended : List String → List ℕ
+ended ls = lines (map ascii ls)
+
+pub record Example : Type 0 where
+  pub text : List ℕ
+  pub numbers : ReadNumbers
+
+abbrev plan : List ℕ → (disks slots streams served unserved left : ℕ) → Example
+plan text n k l s u left = record {
+  text = text;
+  numbers = record { refusal = 0; second = 0; disks = n; slots = k; streams = l; served = s; unserved = u; left = left };
+}
+
+-- Refused 9 at a line.
+abbrev refusedAt : ℕ → List ℕ → Example
+refusedAt n text = record {
+  text = text;
+  numbers = record { refusal = 9; second = n; disks = 0; slots = 0; streams = 0; served = 0; unserved = 0; left = 0 };
+}
+
+abbrev pub caseAText : List ℕ
+caseAText =
+    ended
+    ("(rack 3 4 6)"
+    ∷ "(disk 1 (8 1) (9 1) (10 1) (11 3))"
+    ∷ "(disk 2 (6 1) (7 1) (11 1) (12 3))"
+    ∷ "(disk 3 (3 1) (4 1) (5 1) (12 1))"
+    ∷ "(left (1 1) (2 1))"
+    ∷ "(served 16 2)"
+    ∷ [])
+
+abbrev pub caseAPlan : Plan
+caseAPlan = record {
+  disks = 3;
+  slots = 4;
+  streams = 6;
+  copies =
+      (item 8 1 ∷ item 9 1 ∷ item 10 1 ∷ item 11 3 ∷ [])
+      ∷ (item 6 1 ∷ item 7 1 ∷ item 11 1 ∷ item 12 3 ∷ [])
+      ∷ (item 3 1 ∷ item 4 1 ∷ item 5 1 ∷ item 12 1 ∷ [])
+      ∷ [];
+  left = item 1 1 ∷ item 2 1 ∷ [];
+}
+
+-- A rack of one disk with two slots and load 5, with these lines behind.
+abbrev small : List String → List ℕ
+small ls = ended ("(rack 1 2 5)" ∷ ls)
+
+abbrev pub accepted : List Example
+accepted =
+    plan caseAText 3 4 6 16 2 2
+    ∷ plan (ended ("(rack 2 1 1)" ∷ "(disk 1 (7 1))" ∷ "(disk 2)" ∷ "(left)" ∷ "(served 1 0)" ∷ [])) 2 1 1 1 0 0
+    ∷ plan (small ("(disk 1 (2 3) (1 2))" ∷ "(left (1 1) (65535 1000000))" ∷ "(served 5 1000001)" ∷ [])) 1 2 5 5 1000001 2
+    ∷ []
+
+abbrev pub refusedAtLine1 : List Example
+refusedAtLine1 =
+    map (refusedAt 1)
+    ([]
+    ∷ ended ("" ∷ [])
+    ∷ ascii "(rack 1 2 5)"
+    ∷ ended ("(refused 1)" ∷ [])
+    ∷ ended ("(rack 01 2 5)" ∷ [])
+    ∷ ended ("(rack 65 2 5)" ∷ [])
+    ∷ ended ("(rack 4294967297 2 5)" ∷ [])
+    ∷ ended ("(rack  1 2 5)" ∷ [])
+    ∷ ended ("(rack 1 2 5) " ∷ [])
+    ∷ ended ("(Rack 1 2 5)" ∷ [])
+    ∷ [])
+
+abbrev pub refusedAtLine2 : List Example
+refusedAtLine2 =
+    map (refusedAt 2)
+    (small []
+    ∷ small ("" ∷ [])
+    ∷ small ("(disk 2)" ∷ [])
+    ∷ small ("(disk 10)" ∷ [])
+    ∷ small ("(disk 1 (07 1))" ∷ [])
+    ∷ small ("(disk 1 (7 0))" ∷ [])
+    ∷ small ("(disk 1 (0 1))" ∷ [])
+    ∷ small ("(disk 1 (65536 1))" ∷ [])
+    ∷ small ("(disk 1 (4294967297 1))" ∷ [])
+    ∷ small ("(disk 1 (7 1) (7 1))" ∷ [])
+    ∷ small ("(disk 1 (7 3) (8 3))" ∷ [])
+    ∷ small ("(disk 1 (7 1) (8 1) (9 1))" ∷ [])
+    ∷ small ("(disk 1 (7 1) )" ∷ [])
+    ∷ [])
+
+abbrev pub refusedLater : List Example
+refusedLater =
+    refusedAt 3 (small ("(disk 1)" ∷ "(left (2 1) (1 1))" ∷ []))
+    ∷ refusedAt 3 (small ("(disk 1)" ∷ "(left (2 1) (2 1))" ∷ []))
+    ∷ refusedAt 3 (small ("(disk 1)" ∷ "(left (2 0))" ∷ []))
+    ∷ refusedAt 3 (small ("(disk 1)" ∷ "(left (2 1000001))" ∷ []))
+    ∷ refusedAt 4 (small ("(disk 1 (7 5))" ∷ "(left)" ∷ "(served 4 0)" ∷ []))
+    ∷ refusedAt 4 (small ("(disk 1 (7 5))" ∷ "(left)" ∷ "(served 05 0)" ∷ []))
+    ∷ refusedAt 4 (small ("(disk 1 (7 5))" ∷ "(left)" ∷ []))
+    ∷ refusedAt 5 (small ("(disk 1 (7 5))" ∷ "(left)" ∷ "(served 5 0)" ∷ "" ∷ []))
+    ∷ []

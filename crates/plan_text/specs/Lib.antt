@@ -1,0 +1,16 @@
+pub mod Ascii
+pub mod Decimal
+pub mod Plan
+pub mod Text
+pub mod Accepted
+pub mod Parse
+pub mod Reading
+pub mod Capped
+pub mod Held
+pub mod ReadCall
+pub mod WriteCall
+pub mod Examples
+pub mod CallExamples
+pub mod Planned
+pub mod Refusal
+pub mod Longest

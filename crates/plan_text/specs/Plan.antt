@@ -1,0 +1,72 @@
+-- Plans as values, and which of them are well formed.
+use Prim.Native.Nat.{ℕ, zero, suc}
+use mathlib.Core.Bool.{Bool, true, _&&_}
+use mathlib.Core.List.{List, [], _∷_}
+use lib.Dec.{leb, ltb, eqb}
+use lib.ListN.{length}
+use Rattle.placement.specs.Items.{Item, total, occurrences}
+use Rattle.placement.specs.Rack.{rackAccepted, inRange, mostFilm, mostDemand}
+use Rattle.placement.specs.Method.{served}
+
+-- The rack's three numbers, each disk's copies, and what is left.
+pub record Plan : Type 0 where
+  pub disks : ℕ
+  pub slots : ℕ
+  pub streams : ℕ
+  pub copies : List (List Item)
+  pub left : List Item
+
+-- "At most 1,024 left films."
+abbrev pub mostLeft : ℕ
+mostLeft = 1024
+
+-- A test of every item.
+abbrev pub every : (Item → Bool) → List Item → Bool
+every test [] = true
+every test (x ∷ xs) = test x && every test xs
+
+-- No film stands twice in the list.
+abbrev pub distinctFilms : List Item → Bool
+distinctFilms [] = true
+distinctFilms (x ∷ xs) = eqb (occurrences (x .film) xs) 0 && distinctFilms xs
+
+-- A film in 1 to 65,535 "with 1 or more viewers".
+abbrev pub copyAccepted : Item → Bool
+copyAccepted x = inRange mostFilm (x .film) && leb 1 (x .amount)
+
+-- "At most k copies a disk, its films distinct and in 1 to 65,535, each with 1 or more viewers, at most L in sum."
+abbrev pub diskAccepted : ℕ → ℕ → List Item → Bool
+diskAccepted slots streams copies =
+    leb (length copies) slots && (distinctFilms copies && (every copyAccepted copies && leb (total copies) streams))
+
+abbrev pub disksAccepted : ℕ → ℕ → List (List Item) → Bool
+disksAccepted slots streams [] = true
+disksAccepted slots streams (copies ∷ rest) =
+    diskAccepted slots streams copies && disksAccepted slots streams rest
+
+-- The films ascend strictly, the first one above a number.
+abbrev pub ascendingAbove : ℕ → List Item → Bool
+ascendingAbove film [] = true
+ascendingAbove film (x ∷ xs) = ltb film (x .film) && ascendingAbove (x .film) xs
+
+-- A film in 1 to 65,535 with an amount in 1 to 1,000,000.
+abbrev pub leftFilmAccepted : Item → Bool
+leftFilmAccepted x = inRange mostFilm (x .film) && inRange mostDemand (x .amount)
+
+-- "At most 1,024 left films, strictly ascending, in range, each amount 1 to 1,000,000."
+abbrev pub leftAccepted : List Item → Bool
+leftAccepted left = leb (length left) mostLeft && (ascendingAbove 0 left && every leftFilmAccepted left)
+
+-- 01's well-formed plan, but for the unused copy places, which a plan value does not have.
+abbrev pub wellFormed : Plan → Bool
+wellFormed p =
+    rackAccepted (p .disks) (p .slots) (p .streams)
+    && (eqb (length (p .copies)) (p .disks)
+    && (disksAccepted (p .slots) (p .streams) (p .copies) && leftAccepted (p .left)))
+
+-- "Its S and U are the sums over its tables."
+abbrev pub servedOf : Plan → ℕ
+servedOf p = served (p .copies)
+
+abbrev pub unservedOf : Plan → ℕ
+unservedOf p = total (p .left)

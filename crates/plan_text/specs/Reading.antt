@@ -1,0 +1,100 @@
+-- A plan's text read line by line. What is determined is compared: the disk's number, S and U.
+use Prim.Native.Nat.{ℕ, zero, suc, _+_, min}
+use mathlib.Core.Bool.{Bool, true, cond}
+use mathlib.Core.List.{List, [], _∷_}
+use Rattle.placement.specs.Items.{Item, total}
+use Rattle.placement.specs.Rack.{rackAccepted}
+use Rattle.plan_text.specs.Ascii.{ascii}
+use Rattle.plan_text.specs.Plan.{Plan, diskAccepted, leftAccepted, mostLeft}
+use Rattle.plan_text.specs.Text.{space, closed, lineFeed, diskHead, leftHead, servedLine}
+use Rattle.plan_text.specs.Parse.{Parse, parsed, unparsed, next, byte, literal, number, pairs}
+
+-- What was read to the end of the text, or the number of lines before the refused one.
+pub data Reading (A : Type 0) : Type 0 where
+  whole : A → Reading A
+  refusedAfter : ℕ → Reading A
+
+-- A line: its body, its line feed, and the test of what it says.
+abbrev pub line : {A : Type 0} → (List ℕ → Parse A) → (A → Bool) → List ℕ → Parse A
+line body test text =
+    next (body text) (λ a t₁. next (byte lineFeed t₁) (λ u t₂. cond (test a) (parsed a t₂) unparsed))
+
+abbrev pub joined : {B C : Type 0} → (B → C) → Reading B → Reading C
+joined join (whole b) = whole (join b)
+joined join (refusedAfter n) = refusedAfter (suc n)
+
+-- A line, then the rest of the text.
+abbrev pub lineThen : {A B C : Type 0} → (A → B → C) → Parse A → (A → List ℕ → Reading B) → Reading C
+lineThen join (parsed a after) rest = joined (join a) (rest a after)
+lineThen join unparsed rest = refusedAfter 0
+
+-- The rack's numbers.
+pub record Sizes : Type 0 where
+  pub disks : ℕ
+  pub slots : ℕ
+  pub streams : ℕ
+
+-- What a text says behind its first line.
+pub record Tail : Type 0 where
+  pub copies : List (List Item)
+  pub left : List Item
+
+abbrev pub sizesAccepted : Sizes → Bool
+sizesAccepted z = rackAccepted (z .disks) (z .slots) (z .streams)
+
+abbrev pub rackBody : (ℕ → ℕ) → List ℕ → Parse Sizes
+rackBody cap text =
+    next (literal (ascii "(rack ") text) (λ u₁ t₁.
+    next (number cap t₁) (λ n t₂.
+    next (byte space t₂) (λ u₂ t₃.
+    next (number cap t₃) (λ k t₄.
+    next (byte space t₄) (λ u₃ t₅.
+    next (number cap t₅) (λ l t₆.
+    next (byte closed t₆) (λ u₄ t₇. parsed (record { disks = n; slots = k; streams = l }) t₇)))))))
+
+abbrev pub pairsBody : (ℕ → ℕ) → List ℕ → ℕ → List ℕ → Parse (List Item)
+pairsBody cap head most text = next (literal head text) (λ u t. pairs cap most t)
+
+-- "Bytes after the last line count as the next line."
+abbrev pub textEnd : List ℕ → Reading (Unit {0})
+textEnd [] = whole tt
+textEnd (b ∷ bs) = refusedAfter 0
+
+-- The served line, with S and U as they must be, and the end.
+abbrev pub readServed : ℕ → ℕ → List ℕ → Reading (Unit {0})
+readServed s u text = lineThen (λ a b. tt) (line (literal (servedLine s u)) (λ a. true) text) (λ a. textEnd)
+
+-- The left line and what follows, where the disks serve s.
+abbrev pub readLeft : (ℕ → ℕ) → ℕ → List ℕ → Reading Tail
+readLeft cap s text =
+    lineThen (λ left u. record { copies = []; left = left })
+    (line (pairsBody cap leftHead mostLeft) leftAccepted text) (λ left. readServed s (total left))
+
+abbrev pub withDisk : List Item → Tail → Tail
+withDisk copies tail = record { copies = copies ∷ tail .copies; left = tail .left }
+
+-- The lines of n disks, numbered from `number` on, and what follows, where the disks before serve s.
+abbrev pub readDisks : (ℕ → ℕ) → (slots streams n number s : ℕ) → List ℕ → Reading Tail
+readDisks cap slots streams zero number s text = readLeft cap s text
+readDisks cap slots streams (suc n) number s text =
+    lineThen withDisk (line (pairsBody cap (diskHead number) slots) (diskAccepted slots streams) text)
+    (λ copies. readDisks cap slots streams n (suc number) (s + total copies))
+
+abbrev pub withSizes : Sizes → Tail → Plan
+withSizes z tail = record {
+  disks = z .disks;
+  slots = z .slots;
+  streams = z .streams;
+  copies = tail .copies;
+  left = tail .left;
+}
+
+-- The whole text.
+abbrev pub planReadWith : (ℕ → ℕ) → List ℕ → Reading Plan
+planReadWith cap text =
+    lineThen withSizes (line (rackBody cap) sizesAccepted text)
+    (λ z. readDisks cap (z .slots) (z .streams) (z .disks) 1 0)
+
+-- With numbers of any size.
+unfoldable pub planRead : List ℕ → Reading Plan
+planRead text = planReadWith (λ n. n) text

@@ -1,0 +1,73 @@
+-- The text of a plan, line by line as document 01 fixes it.
+use Prim.Native.Nat.{ℕ, suc}
+use mathlib.Core.List.{List, [], _∷_, _++_}
+use Rattle.placement.specs.Items.{Item}
+use Rattle.plan_text.specs.Ascii.{ascii}
+use Rattle.plan_text.specs.Decimal.{decimal}
+use Rattle.plan_text.specs.Plan.{Plan, servedOf, unservedOf}
+
+-- The bytes that the lines are made of.
+abbrev pub space : ℕ
+space = 32
+
+abbrev pub opened : ℕ
+opened = 40
+
+abbrev pub closed : ℕ
+closed = 41
+
+abbrev pub lineFeed : ℕ
+lineFeed = 10
+
+-- Line 1: `(rack N k L)`.
+abbrev pub rackLine : ℕ → ℕ → ℕ → List ℕ
+rackLine disks slots streams =
+    ascii "(rack " ++ (decimal disks ++ (space ∷ decimal slots ++ (space ∷ decimal streams ++ (closed ∷ []))))
+
+-- A pair: film, then viewers or amount.
+abbrev pub pairText : Item → List ℕ
+pairText x = opened ∷ (decimal (x .film) ++ (space ∷ (decimal (x .amount) ++ (closed ∷ []))))
+
+-- The pairs of a line, each with a space before it, and the line's closing bracket.
+abbrev pub pairsText : List Item → List ℕ
+pairsText [] = closed ∷ []
+pairsText (x ∷ xs) = space ∷ (pairText x ++ pairsText xs)
+
+-- How a disk's line and the left line begin.
+abbrev pub diskHead : ℕ → List ℕ
+diskHead number = ascii "(disk " ++ decimal number
+
+abbrev pub leftHead : List ℕ
+leftHead = ascii "(left"
+
+-- `(disk 2 (6 1) (7 1))`, or `(disk 2)` without pairs.
+abbrev pub diskLine : ℕ → List Item → List ℕ
+diskLine number copies = diskHead number ++ pairsText copies
+
+-- `(left (1 1) (2 1))`, or `(left)` without pairs.
+abbrev pub leftLine : List Item → List ℕ
+leftLine left = leftHead ++ pairsText left
+
+-- `(served S U)`.
+abbrev pub servedLine : ℕ → ℕ → List ℕ
+servedLine s u = ascii "(served " ++ (decimal s ++ (space ∷ (decimal u ++ (closed ∷ []))))
+
+-- Each line ended by a line feed.
+abbrev pub lines : List (List ℕ) → List ℕ
+lines [] = []
+lines (line ∷ rest) = line ++ (lineFeed ∷ lines rest)
+
+-- The lines of disks that are numbered from `number` on, and the lines after them.
+abbrev pub disksThen : ℕ → List (List Item) → List (List ℕ) → List (List ℕ)
+disksThen number [] after = after
+disksThen number (copies ∷ rest) after = diskLine number copies ∷ disksThen (suc number) rest after
+
+-- "Line 1 is the rack. Then one line a disk, one for what is left, one with S and U."
+abbrev pub linesOf : Plan → List (List ℕ)
+linesOf p =
+    rackLine (p .disks) (p .slots) (p .streams)
+    ∷ disksThen 1 (p .copies) (leftLine (p .left) ∷ servedLine (servedOf p) (unservedOf p) ∷ [])
+
+-- The text of a plan, as bytes.
+unfoldable pub textOf : Plan → List ℕ
+textOf p = lines (linesOf p)

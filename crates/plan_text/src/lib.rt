@@ -1,0 +1,1 @@
+// The plan text as definitions and laws; it has no code of its own.
