@@ -1,0 +1,224 @@
+"""Prints what the program cross_check has to print, from a generator and a planner written here from document 01's words alone.
+
+The generator draws the same cases as the program does. The planner shares nothing with the program: the list is a sorted
+Python list of (demand, film), and a split film is inserted anew. The last line states what the comparison has to find.
+Usage: python3 tools/cross_check_expected.py > crates/cross_check/stdout
+With the argument --families the refusals by number and the plans by family go to standard error.
+"""
+import bisect
+import sys
+from collections import Counter
+
+CASES = 25_000
+BITS = (1 << 64) - 1
+
+
+def mix(x):
+    x = (x ^ (x << 13)) & BITS
+    x ^= x >> 7
+    x = (x ^ (x << 17)) & BITS
+    return (x + 11_400_714_819_323_198_485) & BITS
+
+
+def draw(case, place, most):
+    if most == 0:
+        return 0
+    x = ((case << 16) | place) & BITS
+    for _ in range(4):
+        x = mix(x)
+    return (x >> 20) % most
+
+
+def from_to(case, place, low, high):
+    return low + draw(case, place, high - low + 1) if low < high else low
+
+
+def shuffled(n):
+    n = (n ^ (n << 7)) & 65_535
+    n ^= n >> 9
+    return (n ^ (n << 8)) & 65_535
+
+
+# Family: most disks, most slots, most load, most records, lowest and highest demand.
+FAMILIES = {
+    0: (4, 4, 12, 8, 0, 9),
+    1: (6, 5, 10, 16, 1, 3),
+    2: (5, 4, 9, 9, 1, 3),
+    3: (4, 5, 6, 12, 1, 2),
+    4: (8, 32, 40, 2, 0, 60),
+    5: (16, 12, 200, 129, 0, 99),
+    6: (8, 4, 1, 12, 0, 4),
+    7: (64, 32, 65_535, 40, 0, 1_000_000),
+    8: (4, 4, 12, 8, 0, 9),
+    9: (4, 4, 12, 8, 0, 9),
+}
+
+
+class Case:
+    def __init__(self, number):
+        self.number = number
+        family = number % 10
+        disks, slots, load, records, self.low, self.high = FAMILIES[family]
+        self.disks = from_to(number, 0, 1, disks)
+        self.slots = from_to(number, 1, 1, slots)
+        self.load = from_to(number, 2, 1, load)
+        self.records = from_to(number, 3, 0, records)
+        self.folds, self.doubled, self.odd_bytes, self.short = 1, 0, 0, 0
+        self.no_film = self.large_film = self.large_demand = self.repeated = None
+        if family == 2:
+            self.folds = 3
+        if family == 3:
+            self.doubled = draw(number, 4, 3)
+            self.load *= 2**self.doubled
+        if family == 5:
+            self.records = from_to(number, 3, 30, 129)
+        if family == 7:
+            self.disks, self.slots = 64, 32
+            if draw(number, 5, 3) == 0:
+                self.low = 1_000_000
+            if number % 2_500 == 7:
+                self.records, self.low = 1_024, 0
+        if family >= 8:
+            self.fault(draw(number, 6, 15))
+        if family == 9:
+            self.fault(draw(number, 7, 15))
+
+    def fault(self, fault):
+        place = draw(self.number, 8, self.records)
+        if fault in (0, 1):
+            self.disks = (0, 65)[fault]
+        elif fault in (2, 3):
+            self.slots = (0, 33)[fault - 2]
+        elif fault in (4, 5):
+            self.load = (0, 65_536)[fault - 4]
+        elif fault == 6:
+            self.odd_bytes = from_to(self.number, 9, 1, 7)
+        elif fault == 7:
+            self.records = from_to(self.number, 10, 1_025, 1_029)
+        elif fault in (8, 9):
+            self.short = from_to(self.number, 11, 1, 5)
+        elif fault == 10:
+            self.no_film = place
+        elif fault == 11:
+            self.large_film = place
+        elif fault == 12:
+            self.large_demand = place
+        else:
+            self.repeated = place
+
+    def film(self, i):
+        if i == self.no_film:
+            return 0
+        if i == self.large_film:
+            return (65_536, 65_541)[draw(self.number, 14, 2)]
+        if i == self.repeated:
+            i = draw(self.number, 15, i)
+        way = draw(self.number, 12, 4)
+        start = from_to(self.number, 13, 1, 64_000)
+        if way == 0:
+            return start + i
+        if way == 1:
+            return 65_535 - i
+        return shuffled(start + i)
+
+    def demand(self, i):
+        if i == self.large_demand:
+            return 1_000_001
+        own = from_to(self.number, 100 + i, self.low, self.high) * 2**self.doubled
+        return own + self.load * draw(self.number, 2_000 + i, self.folds)
+
+    def length(self, table, needed):
+        if self.short == table:
+            return max(needed - 1, 0)
+        return needed + draw(self.number, 20 + table, 3)
+
+    def list(self):
+        data = bytearray()
+        for i in range(self.records):
+            data += self.film(i).to_bytes(4, "little") + self.demand(i).to_bytes(4, "little")
+        return bytes(data) + bytes(self.odd_bytes)
+
+
+def refusal(n, k, load, data, copies, counts, lefts):
+    if not (1 <= n <= 64 and 1 <= k <= 32 and 1 <= load <= 65_535):
+        return 1
+    if len(data) % 8:
+        return 2
+    if len(data) // 8 > 1_024:
+        return 3
+    if copies < n * k or counts < n or lefts < len(data) // 8:
+        return 7
+    seen = set()
+    for at in range(0, len(data), 8):
+        film = int.from_bytes(data[at : at + 4], "little")
+        demand = int.from_bytes(data[at + 4 : at + 8], "little")
+        if not 1 <= film <= 65_535:
+            return 4
+        if demand > 1_000_000:
+            return 5
+        if film in seen:
+            return 6
+        seen.add(film)
+    return 0
+
+
+def window(films, k, load):
+    """The window's first place and the place after its last."""
+    for end in range(1, min(k, len(films)) + 1):
+        if sum(d for d, _ in films[:end]) >= load:
+            return 0, end
+    for start in range(1, len(films) - k + 1):
+        if sum(d for d, _ in films[start : start + k]) >= load:
+            return start, start + k
+    return max(len(films) - k, 0), len(films)
+
+
+def planned(n, k, load, data):
+    """S and U of a list that is not refused."""
+    films = []
+    for at in range(0, len(data), 8):
+        demand = int.from_bytes(data[at + 4 : at + 8], "little")
+        if demand > 0:
+            films.append((demand, int.from_bytes(data[at : at + 4], "little")))
+    films.sort()
+    served = 0
+    for _ in range(n):
+        start, end = window(films, k, load)
+        chosen = films[start:end]
+        del films[start:end]
+        viewers = sum(d for d, _ in chosen)
+        if viewers >= load:
+            rest = viewers - load
+            if rest > 0:
+                bisect.insort(films, (rest, chosen[-1][1]))
+            viewers = load
+        served += viewers
+    return served, sum(d for d, _ in films)
+
+
+def main():
+    refused, served, unserved = Counter(), 0, 0
+    plans = Counter()
+    for number in range(CASES):
+        c = Case(number)
+        data = c.list()
+        copies = min(c.length(1, c.disks * c.slots), c.length(2, c.disks * c.slots))
+        counts = c.length(3, c.disks)
+        lefts = min(c.length(4, c.records), c.length(5, c.records))
+        why = refusal(c.disks, c.slots, c.load, data, copies, counts, lefts)
+        if why:
+            refused[why] += 1
+            continue
+        s, u = planned(c.disks, c.slots, c.load, data)
+        served, unserved = served + s, unserved + u
+        plans[number % 10] += 1
+    if "--families" in sys.argv:
+        print("refusals:", sorted(refused.items()), "plans:", sorted(plans.items()), file=sys.stderr)
+    print("cases", CASES)
+    print("refused", sum(refused.values()))
+    print("served", served)
+    print("left", unserved)
+    print("differ 0")
+
+
+main()
