@@ -1,11 +1,8 @@
 -- `planner::plan` keeps planning's whole promise.
 use borrow.Author.Needs.{needs}
-use mathlib.Core.Path.{sym, _∙_}
 use Rattle.placement.specs.Tables.{tables}
-use Rattle.placement.proofs.PlanPromise.{plan-promise}
-use Rattle.planner.specs.Answers.{numbersOf}
 use Rattle.planner.specs.Verdicts.{callOf}
-use Rattle.planner.proofs.Answered.{tag-refusing, tag-planned, refused-numbers, refused-tables, planned-numbers, planned-tables}
+use Rattle.planner.proofs.Answered.{tag-refusing, passed, refused-promise, planned-promise}
 use Rattle.planner.proofs.Fulfilled.{plannable}
 use Rattle.planner.proofs.plan.Statement.{statement}
 use Rattle.planner.proofs.plan.Tie as tie
@@ -22,16 +19,16 @@ returns c =
     let called = callOf (a .rack .disks) (a .rack .slots .0) (a .rack .streams .0) (a .list .now) in
     let entry = tables (a .films .now) (a .viewers .now) (a .counts .now) (a .leftfilms .now) (a .leftamounts .now) in
     let judged = c .before .judge in
-    let refusing = tag-refusing (judged .result) (c .match .keys2) in
-    plan-promise called entry entry (numbersOf (judged .result)) (refused-numbers (judged .result) called entry refusing (judged .ensures))
-    (refused-tables (judged .result) called entry refusing (judged .ensures))
+    refused-promise (judged .result) called entry (tag-refusing (judged .result) (c .match .keys2)) (judged .ensures)
 
 fill-tables-requires : tie.Need-fill-tables-requires
 fill-tables-requires c κs =
     let a = c .before .before .before .before .before .before .before .before .before .before .before .before .before .before .args in
-    plannable (callOf (a .rack .disks) (a .rack .slots .0) (a .rack .streams .0) (a .list .now))
-    (tables (a .films .now) (a .viewers .now) (a .counts .now) (a .leftfilms .now) (a .leftamounts .now))
-    (sym (c .before .before .before .before .before .before .before .judge .ensures) ∙ tag-planned (c .before .before .before .before .before .before .before .judge .result) (c .before .before .before .before .before .before .match .keys1))
+    let called = callOf (a .rack .disks) (a .rack .slots .0) (a .rack .streams .0) (a .list .now) in
+    let entry = tables (a .films .now) (a .viewers .now) (a .counts .now) (a .leftfilms .now) (a .leftamounts .now) in
+    let at-match = c .before .before .before .before .before .before in
+    let judged = at-match .before .judge in
+    plannable called entry (passed (judged .result) called entry (at-match .match .keys1) (judged .ensures))
 
 same-length : tie.Need-same-length
 same-length c = search needs
@@ -50,14 +47,15 @@ same-length-5 c = search needs
 
 returns-2 : tie.Need-returns-2
 returns-2 c =
-    let a = c .before .before .before .before .before .before .before .before .before .before .before .before .before .before .before .before .before .before .before .before .before .before .before .before .before .args in
+    let at-fill = c .before .before .before .before .before .before .before .before .before .before in
+    let at-match = at-fill .before .before .before .before .before .before .before in
+    let a = at-match .before .before .before .before .before .before .before .before .args in
     let called = callOf (a .rack .disks) (a .rack .slots .0) (a .rack .streams .0) (a .list .now) in
     let entry = tables (a .films .now) (a .viewers .now) (a .counts .now) (a .leftfilms .now) (a .leftamounts .now) in
-    let judged = c .before .before .before .before .before .before .before .before .before .before .before .before .before .before .before .before .before .before .judge in
-    let filled = c .before .before .before .before .before .before .before .before .before .before .fill-tables in
-    let passed = sym (judged .ensures) ∙ tag-planned (judged .result) (c .before .before .before .before .before .before .before .before .before .before .before .before .before .before .before .before .before .match .keys1) in
-    plan-promise called entry _ (numbersOf (filled .result)) (planned-numbers (filled .result) called entry passed (filled .ensures .0))
-    (planned-tables called entry _ passed (filled .ensures .1))
+    let judged = at-match .before .judge in
+    planned-promise (at-fill .fill-tables .result) called entry
+    (passed (judged .result) called entry (at-match .match .keys1) (judged .ensures))
+    (at-fill .fill-tables .ensures)
 
 pub plan-spec : {M : Type 1} → statement M
 plan-spec =
