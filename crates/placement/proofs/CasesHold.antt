@@ -1,7 +1,7 @@
 -- The cases of document 01, proved by computation on the definitions.
 use Prim.Native.Nat.{ℕ, _+_, _-_, _*_}
 use mathlib.Core.Path.{_≡_, refl}
-use mathlib.Core.List.{List, map}
+use mathlib.Core.List.{map}
 use lib.ListN.{length}
 use Rattle.placement.specs.Items.{wanted}
 use Rattle.placement.specs.Rack.{allSlots}

@@ -1,20 +1,20 @@
 -- One disk's step: what its copies and its remainder sum to, and what the next list holds (fact 5 of demand 3's argument).
-use mathlib.Core.Path.{_≡_, refl, sym, ap, ap₂, _∙_, subst}
-use mathlib.Core.Bool.{Bool, true, false, cond}
+use mathlib.Core.Path.{_≡_, refl, sym, ap, _∙_}
+use mathlib.Core.Bool.{cond}
 use mathlib.Core.List.{List, [], _∷_, _++_, map}
-use Prim.Native.Nat.{ℕ, zero, suc, _+_, _-_, _*_, _≤_, _<_, min}
+use Prim.Native.Nat.{ℕ, suc, _+_, _-_, _≤_, _<_}
 use native.Mathlib.Omega.{arith}
 use borrow.Author.Tests.{lt-ltb, le-ltb}
-use lib.Dec.{leb, ltb, eqb}
-use lib.ListN.{length, take, drop, getD}
+use lib.Dec.{leb}
+use lib.ListN.{length, take}
 use lib.Seq.{take-suc, take-length}
-use Rattle.placement.specs.Items.{Item, item, sumBy, total, filmOf, oneIf, occurrences, enter}
+use Rattle.placement.specs.Items.{Item, item, sumBy, total, filmOf}
 use Rattle.placement.specs.Rack.{Disk}
-use Rattle.placement.specs.Window.{Window, within, outside, windowOf}
+use Rattle.placement.specs.Window.{within, outside, windowOf}
 use Rattle.placement.specs.Disk.{allButLast, lastFilm, stored, remainder, copiesOf, listAfter}
 use Rattle.placement.proofs.Tests.{by-order, amount-chosen}
 use Rattle.placement.proofs.Sums.{sumBy-append, sumBy-window, sumBy-enter}
-use Rattle.placement.proofs.Windows.{Windowed, window-cases, window-last-needed, window-some}
+use Rattle.placement.proofs.Windows.{window-cases, window-last-needed}
 
 -- A list with a film is all its films but the last, and the last.
 pub split-last : (xs : List Item) → 1 ≤ length xs → xs ≡ allButLast xs ++ (lastFilm xs ∷ [])

@@ -1,74 +1,27 @@
--- Lists whose amounts, but for the first one, are large: one slot less of them makes each disk's load, so every disk is full until the
--- list is empty (step 8 of demand 3's argument).
-use mathlib.Core.Path.{_≡_, refl, sym, ap, _∙_, subst}
+-- Where one slot less of a large list makes each disk's load, every disk is full until the list is empty
+-- (step 8 of demand 3's argument).
+use mathlib.Core.Path.{_≡_, refl, sym, ap, subst}
 use mathlib.Core.Logic.{_⊎_, inl, inr}
-use mathlib.Core.Bool.{Bool, true, false, cond}
 use mathlib.Core.List.{List, [], _∷_, _++_}
 use Prim.Native.Nat.{ℕ, zero, suc, _+_, _-_, _*_, _≤_, _<_}
-use native.Mathlib.Nat.{mul-add, add-mul, mul-suc, suc-mul, mul-comm, mul-assoc, mul-right-comm, zero-add, mul-le-mul-left, mul-le-mul-right, le-of-mul-le-mul-right, le-of-mul-le-mul-left}
+use native.Mathlib.Nat.{mul-add, add-mul, mul-comm, mul-assoc, zero-add, mul-le-mul-left, mul-le-mul-right, le-of-mul-le-mul-right, le-of-mul-le-mul-left}
 use native.Mathlib.Omega.{arith}
 use lib.ListN.{length, take, drop}
-use lib.Seq.{length-take-le}
-use Rattle.placement.specs.Items.{Item, total, before, insertBy, enter}
+use Rattle.placement.specs.Items.{Item, total}
 use Rattle.placement.specs.Rack.{Disk, allLoads}
-use Rattle.placement.specs.Window.{Window, within, outside, windowOf}
+use Rattle.placement.specs.Window.{within, outside, windowOf}
 use Rattle.placement.specs.Disk.{copiesOf, listAfter, remainder}
 use Rattle.placement.specs.Method.{placement, remaining, served}
 use Rattle.placement.specs.Promise.{UniformFrom}
-use Rattle.placement.proofs.Tests.{by-order, chosen, passed}
+use Rattle.placement.proofs.Tests.{by-order}
 use Rattle.placement.proofs.Windows.{window-cases, window-inside, window-some, window-later, window-below}
 use Rattle.placement.proofs.Disks.{copies-full}
-use Rattle.placement.proofs.Order.{Ascending, ascending-weaken, ascending-take, ascending-drop, ascending-insert, before-less, total-least}
+use Rattle.placement.proofs.Order.{Ascending}
 use Rattle.placement.proofs.Steps.{after-ascending}
 use Rattle.placement.proofs.Ratio.{load-some}
 use Rattle.placement.proofs.SmallLists.{whole-list}
-
--- All films but the first have an amount of at least a.
-abbrev pub Large : ℕ → List Item → Type 0
-Large a [] = Unit {0}
-Large a (x ∷ xs) = Ascending a xs
-
-large-of-ascending : (a : ℕ) (xs : List Item) → Ascending a xs → Large a xs
-large-of-ascending a [] asc = tt
-large-of-ascending a (x ∷ xs) asc = ascending-weaken (asc .0) xs (asc .1)
-
--- Any film may enter a list of amounts from a on: it is large, or stands in front.
-large-insert : (a : ℕ) (x : Item) (xs : List Item) → Ascending a xs → Large a (insertBy before x xs)
-large-insert a x xs asc =
-    by-order (x .amount) a (λ h. front xs h asc)
-    (λ h. large-of-ascending a (insertBy before x xs) (ascending-insert a x xs h asc))
-  where
-    front : (ys : List Item) → x .amount < a → Ascending a ys → Large a (insertBy before x ys)
-    front [] h asc = tt
-    front (y ∷ ys) h asc =
-        subst (λ (b : Bool). Large a (cond b (x ∷ y ∷ ys) (y ∷ insertBy before x ys)))
-        (sym (before-less x y (omega (arith, asc .0)))) asc
-
-pub large-enter : (a : ℕ) (x : Item) (xs : List Item) → Ascending a xs → Large a (enter x xs)
-large-enter a x xs asc =
-    by-order (x .amount) 1
-    (λ h. subst (λ (r : List Item). Large a r) (sym (passed (x .amount) (insertBy before x xs) xs (omega arith)))
-    (large-of-ascending a xs asc))
-    (λ h. subst (λ (r : List Item). Large a r) (sym (chosen (x .amount) (insertBy before x xs) xs h)) (large-insert a x xs asc))
-
--- What follows the first film ascends from a on.
-large-drop : (a m : ℕ) (xs : List Item) → 1 ≤ m → Large a xs → Ascending a (drop m xs)
-large-drop a zero xs some large = absurd (omega arith)
-large-drop a (suc m) [] some large = tt
-large-drop a (suc m) (x ∷ xs) some large = ascending-drop a m xs large
-
--- The opening films of a large list, one less than they are, make as many times a.
-large-opening : (a n : ℕ) (xs : List Item) → n ≤ length xs → Large a xs → n * a ≤ total (take n xs) + a
-large-opening a zero xs h large = omega (arith, suc-mul zero a)
-large-opening a (suc n) [] h large = absurd (omega arith)
-large-opening a (suc n) (x ∷ xs) h large =
-    omega (
-      arith,
-      suc-mul n a,
-      mul-comm n a,
-      total-least a (take n xs) (ascending-take a n xs large),
-      ap (λ (m : ℕ). a * m) (length-take-le n xs (omega arith)),
-    )
+pub use Rattle.placement.proofs.Large.{Large, large-enter}
+use Rattle.placement.proofs.Large.{large-drop, large-opening}
 
 module _ (k l : ℕ) (someSlots : 1 ≤ k) (someLoad : 1 ≤ l) where
   -- "One slot less makes the load", at the ratio and `slots` slots.

@@ -1,7 +1,7 @@
 -- The arithmetic of the share: from the counts of full and other disks to kU ≤ S and 4kU² ≤ (S − kU)² (steps 11 and 12 of demand 3's argument).
-use mathlib.Core.Path.{_≡_, refl, sym, ap, _∙_}
-use Prim.Native.Nat.{ℕ, zero, suc, _+_, _-_, _*_, _≤_, _<_}
-use native.Mathlib.Nat.{mul-add, add-mul, mul-comm, mul-assoc, mul-left-comm, mul-right-comm, mul-le-mul, mul-le-mul-left, mul-le-mul-right, le-refl, le-trans, le-of-mul-le-mul-right, eq-of-mul-eq-mul-right, le-of-eq}
+use mathlib.Core.Path.{_≡_, sym, ap, _∙_}
+use Prim.Native.Nat.{ℕ, _+_, _-_, _*_, _≤_}
+use native.Mathlib.Nat.{mul-add, add-mul, mul-comm, mul-assoc, mul-left-comm, mul-right-comm, mul-le-mul, mul-le-mul-left, mul-le-mul-right, le-trans, le-of-mul-le-mul-right, eq-of-mul-eq-mul-right, le-of-eq}
 use native.Mathlib.Omega.{arith}
 use Rattle.placement.proofs.Tests.{by-order}
 

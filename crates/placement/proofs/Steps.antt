@@ -1,21 +1,21 @@
 -- One disk's step on an ascending list: what follows where the window stays below the load, and how long the next list is.
-use mathlib.Core.Path.{_≡_, refl, sym, ap, _∙_, subst}
+use mathlib.Core.Path.{_≡_, sym, ap, _∙_, subst}
 use mathlib.Core.Bool.{Bool, true, false, cond}
-use mathlib.Core.List.{List, [], _∷_, _++_, append-nil}
-use Prim.Native.Nat.{ℕ, zero, suc, _+_, _-_, _*_, _≤_, _<_, min}
+use mathlib.Core.List.{List, [], _++_, append-nil}
+use Prim.Native.Nat.{ℕ, _+_, _-_, _*_, _≤_, _<_}
 use native.Mathlib.Nat.{mul-le-mul-left}
 use native.Mathlib.Omega.{arith}
 use lib.Dec.{leb}
 use lib.ListN.{length, take, drop, length-drop}
 use lib.Seq.{length-take-le, drop-length, take-nil, drop-nil}
-use Rattle.placement.specs.Items.{Item, item, sumBy, total, insertBy, before}
+use Rattle.placement.specs.Items.{Item, total, insertBy, before}
 use Rattle.placement.specs.Rack.{Disk}
-use Rattle.placement.specs.Window.{Window, within, outside, windowOf}
+use Rattle.placement.specs.Window.{within, outside, windowOf}
 use Rattle.placement.specs.Disk.{remainder, copiesOf, listAfter}
-use Rattle.placement.proofs.Tests.{by-order, chosen, passed}
+use Rattle.placement.proofs.Tests.{passed}
 use Rattle.placement.proofs.Sums.{sumBy-cut, sumBy-window, length-sum, one}
 use Rattle.placement.proofs.Windows.{Windowed, window-cases, window-inside, window-below}
-use Rattle.placement.proofs.Disks.{stored-below, copies-total, after-sum, before-sum}
+use Rattle.placement.proofs.Disks.{stored-below, after-sum, before-sum}
 use Rattle.placement.proofs.Order.{Ascending, ascending-outside, ascending-enter, ascending-from, amountAt, total-least, largest, largest-take, largest-drop, total-largest}
 
 module _ (d : Disk) (list : List Item) (someSlots : 1 ≤ d .slots) (someLoad : 1 ≤ d .load) where

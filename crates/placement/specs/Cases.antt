@@ -1,8 +1,8 @@
--- Cases A to I of document 01 and its numeric edges, as one table: what is asked, and what the answer and the lent tables then are.
+-- Cases A to I of document 01 and planning's numeric edges, as one table: what is asked, and what the answer and the lent tables then are.
 use Prim.Native.Nat.{ℕ, _+_, _*_, _/_, _%_}
-use mathlib.Core.List.{List, [], _∷_, _++_, map}
+use mathlib.Core.List.{List, [], _∷_, _++_}
 use lib.ListN.{length, replicate}
-use Rattle.placement.specs.Items.{Item, item, filmOf, amountOf}
+use Rattle.placement.specs.Items.{Item, item}
 use Rattle.placement.specs.Tables.{Tables}
 use Rattle.placement.specs.Planning.{Call, Numbers, planning, tablesAfter}
 
@@ -54,7 +54,8 @@ abbrev numbers : ℕ → ℕ → ℕ → ℕ → ℕ → Numbers
 numbers refusal second s u left =
     record { refusal = refusal; second = second; served = s; unserved = u; left = left }
 
--- What a row expects: after a plan each table has the places of the row and then its last 77; after a refusal all is as it was.
+-- The outcome that a row expects of these tables at entry: after a plan each table has the row's places and then its last 77;
+-- after a refusal all is as it was.
 abbrev expectation : Tables → Expected → Outcome
 expectation t (plans s u left films viewers counts leftFilms leftAmounts) = record {
   numbers = numbers 0 0 s u left;

@@ -6,7 +6,7 @@ use lib.Dec.{ltb}
 use lib.ListN.{length, getD, take}
 use Rattle.placement.specs.Items.{Item, item, total, enter}
 use Rattle.placement.specs.Rack.{Disk}
-use Rattle.placement.specs.Window.{Window, within, outside, windowOf}
+use Rattle.placement.specs.Window.{within, outside, windowOf}
 
 -- All films of a window but the last.
 abbrev pub allButLast : List Item → List Item

@@ -9,4 +9,6 @@ pub mod Tables
 pub mod Held
 pub mod Planning
 pub mod Promise
+pub mod WellFormed
+pub mod PlanPromise
 pub mod Cases

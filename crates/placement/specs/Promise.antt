@@ -1,4 +1,4 @@
--- Demand 3 as one record of promises about a placement, and when a list of disks has them.
+-- Demand 3 as one record of promises about a layout, and the racks for which they are proved.
 use Prim.Native.Nat.{ℕ, _+_, _-_, _*_, _≤_}
 use mathlib.Core.Path.{_≡_}
 use mathlib.Core.List.{List, [], _∷_}
@@ -17,7 +17,7 @@ pub record Fitting (disks : List Disk) (demands : List Item) : Type 0 where
   pub load : total demands ≤ allLoads disks
   pub slots : wanted demands ≤ allSlots disks
 
--- Demand 3 for the copies of a layout, with S served and U unserved, k the (smallest) slots of a disk.
+-- Demand 3 for the copies of a layout, with S served and U unserved. k is the slots of a disk; of unequal disks, the smallest.
 pub record Demand3 (k : ℕ) (disks : List Disk) (demands : List Item) (layout : List (List Item)) (s u : ℕ) : Type 0 where
   -- the plan's own sharing keeps within the bounds, and serves S
   pub own : Sharing disks demands layout layout
@@ -38,7 +38,7 @@ UniformFrom k l least [] = Unit {0}
 UniformFrom k l least (d ∷ ds) =
     (least ≤ d .slots) × (d .load * k ≡ l * d .slots) × UniformFrom k l (d .slots) ds
 
--- A rack of one ratio of load to slots, by ascending slots, of which k is the smallest and has load l.
+-- Disks of one ratio of load to slots, l to k, by ascending slots. No disk has fewer than k slots.
 pub record Uniform (k l : ℕ) (disks : List Disk) : Type 0 where
   pub someSlots : 1 ≤ k
   pub someLoad : 1 ≤ l

@@ -1,11 +1,11 @@
 -- Disks and racks: what a disk is, the list of disks that a rack stands for, and the accepted ranges.
-use Prim.Native.Nat.{ℕ, zero, suc, _+_}
+use Prim.Native.Nat.{ℕ, _+_}
 use mathlib.Core.Bool.{Bool, _&&_}
 use mathlib.Core.List.{List, [], _∷_}
 use lib.Dec.{leb}
 use lib.ListN.{replicate}
 
--- A disk: how many films it stores and how many viewers it serves.
+-- A disk: how many films it can store and how many viewers it can serve at a time, 01's load or streams.
 pub record Disk : Type 0 where
   pub slots : ℕ
   pub load : ℕ

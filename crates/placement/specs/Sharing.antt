@@ -21,7 +21,7 @@ WithinLoads [] (copies ∷ rest) = ⊥
 WithinLoads (d ∷ ds) [] = ⊥
 WithinLoads (d ∷ ds) (copies ∷ rest) = (total copies ≤ d .load) × WithinLoads ds rest
 
--- "Another sharing gives each stored copy any whole number of viewers from 0, at most L on a disk and at most its
+-- "Another sharing, in demand 3, gives each stored copy any whole number of viewers from 0, at most L on a disk and at most its
 -- demand for a film over all disks."
 pub record Sharing (disks : List Disk) (demands : List Item) (layout shares : List (List Item)) : Type 0 where
   pub sameCopies : filmsOn shares ≡ filmsOn layout

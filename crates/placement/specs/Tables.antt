@@ -5,7 +5,8 @@ use lib.ListN.{length, drop, replicate}
 use Rattle.placement.specs.Items.{Item, filmOf, amountOf}
 use Rattle.placement.specs.Rack.{Disk}
 
--- The copy table (films and viewers), the count table, and the left table (films and amounts).
+-- The copy table (films and viewers), the count table, and the left table (films and amounts). The copy table and the left table
+-- are each lent as two slices of numbers.
 pub record Tables : Type 0 where
   pub films : List ℕ
   pub viewers : List ℕ
@@ -23,7 +24,7 @@ countPlaces t = length (t .counts)
 abbrev pub leftPlaces : Tables → ℕ
 leftPlaces t = min (length (t .leftFilms)) (length (t .leftAmounts))
 
--- The list with zero entries behind, n places in all.
+-- The list with zeros after it, n places in all where it has no more itself.
 abbrev pub padded : ℕ → List ℕ → List ℕ
 padded n xs = xs ++ replicate (n - length xs) 0
 

@@ -15,10 +15,10 @@ pub const MOST_FILM: u32 = 65_535;
 
 pub const MOST_DEMAND: u32 = 1_000_000;
 
-// How many films a disk stores: 01's k.
+// How many films a disk can store: 01's k.
 pub struct Slots(pub u32);
 
-// How many viewers a disk serves at a time: 01's load L.
+// How many viewers a disk can serve at a time: 01's load L.
 pub struct Streams(pub u32);
 
 // A rack of equal disks: 01's N, k and L.

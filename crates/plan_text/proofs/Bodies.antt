@@ -19,6 +19,7 @@ use Rattle.plan_text.proofs.Grammar.{Body}
 abbrev pub FewItems : ℕ → List Item → Type 0
 FewItems n xs = (length xs ≤ n) × SmallItems xs
 
+-- A head and pairs: at most n small pairs are read.
 pub pairs-body : {cap : ℕ → ℕ} → Faithful cap → (head : List ℕ) (n : ℕ)
     → Body (pairsBody cap head n) (λ xs. head ++ pairsText xs) (FewItems n)
 pairs-body {cap} f head n = record {
@@ -33,15 +34,18 @@ pairs-body {cap} f head n = record {
       ∙ pairs-complete f n xs r (small .0) (small .1);
 }
 
+-- The served line is a literal.
 pub served-body : (s u : ℕ) → Body (literal (servedLine s u)) (λ a. servedLine s u) (λ a. Unit {0})
 served-body s u = record {
   sound = λ t a r e small. literal-sound (servedLine s u) t r e;
   complete = λ a r small. literal-complete (servedLine s u) r;
 }
 
+-- The three numbers are at most 1,000,000.
 abbrev SmallSizes : Sizes → Type 0
 SmallSizes z = (z .disks ≤ most) × (z .slots ≤ most) × (z .streams ≤ most)
 
+-- The rack's line, from its numbers as one value.
 abbrev pub sizesLine : Sizes → List ℕ
 sizesLine z = rackLine (z .disks) (z .slots) (z .streams)
 
@@ -50,6 +54,7 @@ abbrev rackBefore : Sizes → List ℕ → List ℕ
 rackBefore z r =
     ascii "(rack " ++ (decimal (z .disks) ++ (space ∷ (decimal (z .slots) ++ (space ∷ (decimal (z .streams) ++ (closed ∷ r))))))
 
+-- Brackets may be moved to the right.
 rack-append : (z : Sizes) (r : List ℕ) → sizesLine z ++ r ≡ rackBefore z r
 rack-append z r =
     ap (λ (s : List ℕ). ascii "(rack " ++ s)
@@ -58,6 +63,7 @@ rack-append z r =
     (append-assoc (decimal (z .slots)) (space ∷ (decimal (z .streams) ++ (closed ∷ []))) r
     ∙ ap (λ (s : List ℕ). decimal (z .slots) ++ (space ∷ s)) (append-assoc (decimal (z .streams)) (closed ∷ []) r)))
 
+-- What is read as a rack is the rack's line.
 rack-sound : {cap : ℕ → ℕ} → Faithful cap → (t : List ℕ) (z : Sizes) (r : List ℕ)
     → rackBody cap t ≡ parsed z r → SmallSizes z → t ≡ sizesLine z ++ r
 rack-sound {cap} f t z r e small =
@@ -89,6 +95,7 @@ rack-sound {cap} f t z r e small =
     ∙ ap (λ (s : List ℕ). rackBefore z s) (parsed-rest d₇)
     ∙ sym (rack-append z r))))))))
 
+-- The rack's line is read.
 rack-complete : {cap : ℕ → ℕ} → Faithful cap → (z : Sizes) (r : List ℕ) → SmallSizes z → rackBody cap (sizesLine z ++ r) ≡ parsed z r
 rack-complete {cap} f z r small =
     ap (rackBody cap) (rack-append z r)
@@ -96,5 +103,6 @@ rack-complete {cap} f z r small =
     (rw (number-complete f (z .slots) space (decimal (z .streams) ++ (closed ∷ r)) (small .1) refl)
     (rw (number-complete f (z .streams) closed r (small .2) refl) refl))
 
+-- Both laws of the rack's line.
 pub rack-body : {cap : ℕ → ℕ} → Faithful cap → Body (rackBody cap) sizesLine SmallSizes
 rack-body f = record { sound = rack-sound f; complete = rack-complete f }

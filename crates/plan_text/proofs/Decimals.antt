@@ -1,5 +1,5 @@
 -- Decimal numbers: one digit, or the digits of a tenth and the last digit.
-use mathlib.Core.Path.{_≡_, refl, sym, ap, _∙_}
+use mathlib.Core.Path.{_≡_, sym, ap, _∙_}
 use mathlib.Core.List.{List, [], _∷_, _++_}
 use Prim.Native.Nat.{ℕ, zero, suc, _+_, _*_, _/_, _%_, _≤_, _<_}
 use native.Mathlib.Omega.{arith}
@@ -9,10 +9,12 @@ use Rattle.placement.proofs.Tests.{by-order}
 use Rattle.plan_text.specs.Decimal.{digit, decimalWithin, decimal}
 use Rattle.plan_text.proofs.Choices.{cond-true, cond-false}
 
+-- Below 10 one digit is enough, whatever the number of steps.
 within-small : (steps n : ℕ) → n < 10 → decimalWithin steps n ≡ digit n ∷ []
 within-small zero n h = let e : n % 10 ≡ n = omega arith in ap (λ (d : ℕ). digit d ∷ []) e
 within-small (suc steps) n h = cond-true (ltb n 10) _ _ (lt-ltb n 10 h)
 
+-- From 10 on, one step takes off the last digit.
 within-large : (steps n : ℕ) → 10 ≤ n → decimalWithin (suc steps) n ≡ decimalWithin steps (n / 10) ++ (digit (n % 10) ∷ [])
 within-large steps n h = cond-false (ltb n 10) _ _ (le-ltb n 10 h)
 

@@ -14,6 +14,7 @@ use Rattle.plan_text.specs.WriteCall.{WriteNumbers, writing, spaceAfter}
 use Rattle.plan_text.specs.CallExamples.{Writing, writings, Taking, takings}
 use Rattle.plan_text.specs.Examples.{Example, accepted, refusedAtLine1, refusedAtLine2, refusedLater, caseAText, caseAPlan}
 
+-- What the definitions give for an example, and what it expects.
 abbrev judgement : Example → ReadNumbers
 judgement e = judging (e .text)
 
@@ -30,14 +31,17 @@ pub accepted-hold : map judgement accepted ≡ map expected accepted
 unfolding judging planRead decimal
 accepted-hold = refl
 
+-- Those that are refused at line 1.
 pub refusedAtLine1-hold : map judgement refusedAtLine1 ≡ map expected refusedAtLine1
 unfolding judging planRead decimal
 refusedAtLine1-hold = refl
 
+-- Those that are refused at line 2.
 pub refusedAtLine2-hold : map judgement refusedAtLine2 ≡ map expected refusedAtLine2
 unfolding judging planRead decimal
 refusedAtLine2-hold = refl
 
+-- Those that are refused later.
 pub refusedLater-hold : map judgement refusedLater ≡ map expected refusedLater
 unfolding judging planRead decimal
 refusedLater-hold = refl
@@ -46,6 +50,7 @@ refusedLater-hold = refl
 abbrev written : Writing → WriteNumbers × List ℕ
 written w = (writing (w .asked) (w .room), spaceAfter (w .asked) (w .room))
 
+-- Every call of writing gives what is expected.
 pub writings-hold : map written writings ≡ map (λ (w : Writing). (w .numbers, w .after)) writings
 unfolding writing spaceAfter textOf decimal
 writings-hold = refl
@@ -54,6 +59,7 @@ writings-hold = refl
 abbrev taken : Taking → ReadNumbers × Tables
 taken r = (reading (r .text) (r .lent), tablesAfterReading (r .text) (r .lent))
 
+-- Every call of reading gives what is expected.
 pub takings-hold : map taken takings ≡ map (λ (r : Taking). (r .numbers, r .after)) takings
 unfolding reading tablesAfterReading planRead decimal
 takings-hold = refl

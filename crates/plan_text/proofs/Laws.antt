@@ -1,9 +1,9 @@
 -- The laws of the plan text: reading gives back what was written, what is read is well formed and has that text, a text
 -- is that of one plan, and the refused line is the one of the definition.
-use mathlib.Core.Path.{_≡_, refl, sym, ap, _∙_, subst}
+use mathlib.Core.Path.{_≡_, refl, sym, ap, _∙_}
 use mathlib.Core.Bool.{true}
 use mathlib.Core.List.{List}
-use Prim.Native.Nat.{ℕ, zero, suc, _≤_, _<_}
+use Prim.Native.Nat.{ℕ, suc, _≤_}
 use native.Mathlib.Omega.{arith}
 use Rattle.placement.proofs.Tests.{by-order}
 use Rattle.plan_text.specs.Plan.{Plan, wellFormed}
@@ -12,7 +12,7 @@ use Rattle.plan_text.specs.Accepted.{Accepted, upto, RefusedAfter, Refus
 use Rattle.plan_text.specs.Reading.{Reading, whole, refusedAfter, planReadWith, planRead}
 use Rattle.plan_text.specs.Capped.{saturated, planReadCapped}
 use Rattle.plan_text.proofs.Numbers.{Faithful, none-faithful, saturated-faithful}
-use Rattle.plan_text.proofs.Grammar.{Grammar, whole-value, whole-refused}
+use Rattle.plan_text.proofs.Grammar.{whole-value}
 use Rattle.plan_text.proofs.Upto.{upto-fewer}
 use Rattle.plan_text.proofs.PlanGrammar.{plan-grammar}
 
@@ -64,6 +64,7 @@ read-refused t n e = refusedWith none-faithful t n e
 pub accepted-refused : (t : List ℕ) (n : ℕ) → Accepted t → RefusedAfter t n → ⊥
 accepted-refused t n a r = r .ended t a refl
 
+-- No refused line comes after another.
 refused-least : (t : List ℕ) (n m : ℕ) → RefusedAfter t n → RefusedAfter t m → m ≤ n
 refused-least t n m r s =
     by-order n m

@@ -10,5 +10,16 @@ pub mod LineThen
 pub mod OneLine
 pub mod Bodies
 pub mod Limits
+pub mod LastLines
+pub mod Tails
 pub mod PlanGrammar
 pub mod Laws
+pub mod Lengths
+pub mod Formed
+pub mod FormedLeft
+pub mod Parts
+pub mod LongestText
+pub mod LongestHolds
+pub mod ReadTables
+pub mod Verdicts
+pub mod RoundTrip

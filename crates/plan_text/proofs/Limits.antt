@@ -1,6 +1,6 @@
 -- What passes the tests of a line has numbers of at most 1,000,000.
-use mathlib.Core.Path.{_≡_, refl}
-use mathlib.Core.Bool.{Bool, true, _&&_}
+use mathlib.Core.Path.{_≡_}
+use mathlib.Core.Bool.{true}
 use mathlib.Core.List.{List, [], _∷_}
 use Prim.Native.Nat.{ℕ, _≤_}
 use native.Mathlib.Omega.{arith}
@@ -16,9 +16,11 @@ use Rattle.plan_text.proofs.Numbers.{most}
 use Rattle.plan_text.proofs.Pairs.{SmallItems}
 use Rattle.plan_text.proofs.Bodies.{FewItems}
 
+-- A number in range is at most the limit.
 pub range-most : (limit n : ℕ) → inRange limit n ≡ true → n ≤ limit
 range-most limit n e = leb-true n limit (and-right (leb 1 n) (leb n limit) e)
 
+-- An accepted rack has at most 64 disks, 32 slots a disk and load 65,535.
 pub sizes-disks : (z : Sizes) → sizesAccepted z ≡ true → z .disks ≤ mostDisks
 sizes-disks z e = range-most mostDisks (z .disks) (and-left (inRange mostDisks (z .disks)) _ e)
 
@@ -31,21 +33,25 @@ sizes-streams z e =
     range-most mostLoad (z .streams)
     (and-right (inRange mostSlots (z .slots)) _ (and-right (inRange mostDisks (z .disks)) _ e))
 
+-- The film of an accepted copy.
 pub copy-film : (x : Item) → copyAccepted x ≡ true → x .film ≤ mostFilm
 copy-film x e = range-most mostFilm (x .film) (and-left (inRange mostFilm (x .film)) _ e)
 
+-- The film and the amount of an accepted left film.
 pub left-film : (x : Item) → leftFilmAccepted x ≡ true → x .film ≤ mostFilm
 left-film x e = range-most mostFilm (x .film) (and-left (inRange mostFilm (x .film)) _ e)
 
 pub left-amount : (x : Item) → leftFilmAccepted x ≡ true → x .amount ≤ mostDemand
 left-amount x e = range-most mostDemand (x .amount) (and-right (inRange mostFilm (x .film)) _ e)
 
+-- Accepted copies have small numbers where their sum is small.
 copies-small : (xs : List Item) → every copyAccepted xs ≡ true → total xs ≤ most → SmallItems xs
 copies-small [] e h = tt
 copies-small (x ∷ xs) e h =
     let film : x .film ≤ most = omega (arith, copy-film x (and-left (copyAccepted x) _ e)) in
     ((film, omega arith), copies-small xs (and-right (copyAccepted x) _ e) (omega arith))
 
+-- Accepted left films have small numbers.
 left-small : (xs : List Item) → every leftFilmAccepted xs ≡ true → SmallItems xs
 left-small [] e = tt
 left-small (x ∷ xs) e =
@@ -66,15 +72,18 @@ module _ (k l : ℕ) (xs : List Item) (e : diskAccepted k l xs ≡ true) where
       leb-true (total xs) l
       (and-right (every copyAccepted xs) _ (and-right (distinctFilms xs) _ (and-right (leb (length xs) k) _ e)))
 
+-- An accepted disk has at most k copies, with small numbers.
 pub disk-few : (k l : ℕ) → l ≤ most → (xs : List Item) → diskAccepted k l xs ≡ true → FewItems k xs
 disk-few k l h xs e =
     (disk-count k l xs e, copies-small xs (disk-copies k l xs e) (omega (arith, disk-total k l xs e)))
 
+-- The count and the tests of accepted left films.
 pub left-count : (xs : List Item) → leftAccepted xs ≡ true → length xs ≤ mostLeft
 left-count xs e = leb-true (length xs) mostLeft (and-left (leb (length xs) mostLeft) _ e)
 
 pub left-items : (xs : List Item) → leftAccepted xs ≡ true → every leftFilmAccepted xs ≡ true
 left-items xs e = and-right (ascendingAbove 0 xs) _ (and-right (leb (length xs) mostLeft) _ e)
 
+-- Accepted left films are at most 1,024, with small numbers.
 pub left-few : (xs : List Item) → leftAccepted xs ≡ true → FewItems mostLeft xs
 left-few xs e = (left-count xs e, left-small xs (left-items xs e))

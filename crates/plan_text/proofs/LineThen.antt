@@ -2,22 +2,14 @@
 use mathlib.Core.Path.{_≡_, refl, sym, ap, _∙_, subst}
 use mathlib.Core.Bool.{Bool, true}
 use mathlib.Core.List.{List, [], _∷_, _++_, append-assoc}
-use Prim.Native.Nat.{ℕ, zero, suc}
+use Prim.Native.Nat.{ℕ, suc}
 use Rattle.plan_text.specs.Text.{lineFeed}
 use Rattle.plan_text.specs.Accepted.{upto}
 use Rattle.plan_text.specs.Parse.{Parse, parsed, unparsed}
 use Rattle.plan_text.specs.Reading.{Reading, whole, refusedAfter, joined, lineThen}
 use Rattle.plan_text.proofs.Pieces.{parsed-value, parsed-rest, unparsed-parsed}
 use Rattle.plan_text.proofs.Upto.{upto-zero, upto-line, upto-rest}
-use Rattle.plan_text.proofs.Grammar.{Line, Grammar, whole-refused, refused-count, joined-whole, joined-refused}
-
--- The whole is a line's value and the rest's, its text is the line and the rest's text, and some line passes.
-pub record Joins {A B C : Type 0} (test : A → Bool) (textA : A → List ℕ) (okB : A → B → Bool) (textB : A → B → List ℕ)
-    (okC : C → Bool) (textC : C → List ℕ) (join : A → B → C) : Type 0 where
-  pub first : (a : A) × (test a ≡ true)
-  pub both : (a : A) (b : B) → test a ≡ true → okB a b ≡ true → okC (join a b) ≡ true
-  pub split : (c : C) → okC c ≡ true → (a : A) × (b : B) × (test a ≡ true) × (okB a b ≡ true) × (join a b ≡ c)
-  pub text : (a : A) (b : B) → test a ≡ true → textC (join a b) ≡ textA a ++ (lineFeed ∷ textB a b)
+use Rattle.plan_text.proofs.Grammar.{Line, Grammar, Joins, whole-refused, refused-count, joined-whole, joined-refused}
 
 module _ {A B C : Type 0} {test : A → Bool} {textA : A → List ℕ} {okB : A → B → Bool} {textB : A → B → List ℕ} {okC : C → Bool}
     {textC : C → List ℕ} {join : A → B → C} {readA : List ℕ → Parse A} {readB : A → List ℕ → Reading B}
@@ -26,6 +18,7 @@ module _ {A B C : Type 0} {test : A → Bool} {textA : A → List ℕ} {okB : A 
   abbrev readC : List ℕ → Reading C
   readC t = lineThen join (readA t) readB
 
+  -- Each law of the whole, from those of the line and the rest.
   then-complete : (c : C) → okC c ≡ true → readC (textC c) ≡ whole c
   then-complete c ok = go (joins .split c ok)
     where

@@ -1,14 +1,14 @@
 -- Reading decimal numbers: what is read is the number's text, and its text is read, for numbers up to 1,000,000 and any faithful cap.
-use mathlib.Core.Path.{_≡_, refl, sym, ap, _∙_, subst}
-use mathlib.Core.Bool.{Bool, true, false, cond, _&&_}
+use mathlib.Core.Path.{_≡_, refl, sym, ap, _∙_}
+use mathlib.Core.Bool.{true, false, cond}
 use mathlib.Core.List.{List, [], _∷_, _++_, append-assoc}
-use Prim.Native.Nat.{ℕ, zero, suc, _+_, _-_, _*_, _/_, _%_, _≤_, _<_, min}
+use Prim.Native.Nat.{ℕ, zero, suc, _+_, _-_, _*_, _/_, _%_, _≤_, _<_}
 use native.Mathlib.Omega.{arith}
-use borrow.Author.Tests.{leb-true, le-leb, lt-leb, eqb-true, eqb-false, ne-eqb}
+use borrow.Author.Tests.{leb-true, le-leb, eqb-true, eqb-false, ne-eqb}
 use lib.Dec.{leb, eqb}
 use Rattle.placement.proofs.Tests.{by-test, by-order}
 use Rattle.plan_text.specs.Decimal.{digit, decimal}
-use Rattle.plan_text.specs.Parse.{Parse, parsed, unparsed, isDigit, digits, number}
+use Rattle.plan_text.specs.Parse.{parsed, unparsed, isDigit, digits, number}
 use Rattle.plan_text.specs.Capped.{saturated}
 use Rattle.plan_text.proofs.Choices.{and-left, and-right, and-true, cond-true, cond-false}
 use Rattle.plan_text.proofs.Decimals.{decimal-small, decimal-large, decimal-more}
@@ -23,12 +23,18 @@ pub record Faithful (cap : ℕ → ℕ) : Type 0 where
   pub exact : (n : ℕ) → n ≤ most → cap n ≡ n
   pub large : (n : ℕ) → most < n → most < cap n
 
+-- No cap, and the cap 2³² − 1, are faithful.
 pub none-faithful : Faithful (λ n. n)
 none-faithful = record { exact = λ n h. refl; large = λ n h. h }
 
 pub saturated-faithful : Faithful saturated
 saturated-faithful = record { exact = λ n h. omega arith; large = λ n h. omega arith }
 
+-- A 0 is a finished number, whatever follows.
+pub number-zero : (cap : ℕ → ℕ) (r : List ℕ) → number cap (48 ∷ r) ≡ parsed 0 r
+number-zero cap r = refl
+
+-- The bytes of digits are 48 to 57.
 digit-true : (d : ℕ) → d < 10 → isDigit (digit d) ≡ true
 digit-true d h = and-true (leb 48 (digit d)) (leb (digit d) 57) (le-leb 48 (digit d) (omega arith)) (le-leb (digit d) 57 (omega arith))
 
@@ -132,6 +138,7 @@ number-digits {cap} f (suc steps) n r s g h =
 -- The text of a number is read where no digit follows.
 pub number-complete : {cap : ℕ → ℕ} → Faithful cap → (n b : ℕ) (r : List ℕ) → n ≤ most → isDigit b ≡ false
     → number cap (decimal n ++ (b ∷ r)) ≡ parsed n (b ∷ r)
-number-complete {cap} f zero b r h other = ap (λ (t : List ℕ). number cap (t ++ (b ∷ r))) (decimal-small 0 (omega arith))
+number-complete {cap} f zero b r h other =
+    ap (λ (t : List ℕ). number cap (t ++ (b ∷ r))) (decimal-small 0 (omega arith)) ∙ number-zero cap (b ∷ r)
 number-complete f (suc n) b r h other =
     number-digits f (suc n) (suc n) (b ∷ r) (omega arith) (omega arith) h ∙ cond-false (isDigit b) _ _ other

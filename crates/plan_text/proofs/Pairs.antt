@@ -1,6 +1,6 @@
 -- Reading pairs: what is read is the pairs' text, and their text is read.
 use mathlib.Core.Path.{_≡_, refl, sym, ap, _∙_, subst}
-use mathlib.Core.Bool.{Bool, true, false, cond}
+use mathlib.Core.Bool.{cond}
 use mathlib.Core.List.{List, [], _∷_, _++_, append-assoc}
 use Prim.Native.Nat.{ℕ, zero, suc, _≤_}
 use native.Mathlib.Omega.{arith}
@@ -20,6 +20,7 @@ use Rattle.plan_text.proofs.Numbers.{Faithful, most, number-sound, numb
 abbrev pub SmallItem : Item → Type 0
 SmallItem x = (x .film ≤ most) × (x .amount ≤ most)
 
+-- Every pair of a list has small numbers.
 abbrev pub SmallItems : List Item → Type 0
 SmallItems [] = Unit {0}
 SmallItems (x ∷ xs) = SmallItem x × SmallItems xs
@@ -28,12 +29,14 @@ SmallItems (x ∷ xs) = SmallItem x × SmallItems xs
 abbrev pairBefore : ℕ → ℕ → List ℕ → List ℕ
 pairBefore f a r = opened ∷ (decimal f ++ (space ∷ (decimal a ++ (closed ∷ r))))
 
+-- Brackets may be moved to the right.
 pair-append : (x : Item) (r : List ℕ) → pairText x ++ r ≡ pairBefore (x .film) (x .amount) r
 pair-append x r =
     ap {B = List ℕ} (λ s. opened ∷ s)
     (append-assoc (decimal (x .film)) (space ∷ (decimal (x .amount) ++ (closed ∷ []))) r
     ∙ ap (λ (s : List ℕ). decimal (x .film) ++ (space ∷ s)) (append-assoc (decimal (x .amount)) (closed ∷ []) r))
 
+-- What is read as a pair is the pair's text.
 pub pair-sound : {cap : ℕ → ℕ} → Faithful cap → (t : List ℕ) (x : Item) (r : List ℕ)
     → pair cap t ≡ parsed x r → SmallItem x → t ≡ pairText x ++ r
 pair-sound {cap} f t x r e small =
@@ -57,6 +60,7 @@ pair-sound {cap} f t x r e small =
     ∙ ap (λ (s : List ℕ). pairBefore (x .film) (x .amount) s) (parsed-rest d₅)
     ∙ sym (pair-append x r))))))
 
+-- The text of a pair is read.
 pub pair-complete : {cap : ℕ → ℕ} → Faithful cap → (x : Item) (r : List ℕ) → SmallItem x → pair cap (pairText x ++ r) ≡ parsed x r
 pair-complete {cap} f x r small =
     ap (pair cap) (pair-append x r)
@@ -82,6 +86,7 @@ endOr-sound more (b ∷ bs) xs r e end later =
     (sym (cond-false (eqb b closed) (parsed [] bs) (cond (eqb b space) (more bs) unparsed) other) ∙ e)
     (λ is read. later bs (ap (λ (c : ℕ). c ∷ bs) (eqb-true b space is)) read))
 
+-- What is read as pairs is their text.
 pub pairs-sound : {cap : ℕ → ℕ} → Faithful cap → (n : ℕ) (t : List ℕ) (xs : List Item) (r : List ℕ)
     → pairs cap n t ≡ parsed xs r → SmallItems xs → t ≡ pairsText xs ++ r
 pairs-sound f zero t xs r e small =
@@ -100,6 +105,7 @@ pairs-sound {cap} f (suc n) t xs r e small =
     ∙ sym (append-assoc (pairText x) (pairsText ys) r))
     ∙ ap (λ (zs : List Item). pairsText zs ++ r) same)))
 
+-- The text of at most n pairs is read.
 pub pairs-complete : {cap : ℕ → ℕ} → Faithful cap → (n : ℕ) (xs : List Item) (r : List ℕ) → length xs ≤ n → SmallItems xs
     → pairs cap n (pairsText xs ++ r) ≡ parsed xs r
 pairs-complete f zero [] r h small = refl

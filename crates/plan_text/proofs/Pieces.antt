@@ -1,14 +1,14 @@
 -- Pieces of text in sequence, and what is determined: one byte, a literal.
-use mathlib.Core.Path.{_≡_, refl, sym, ap, _∙_, subst}
+use mathlib.Core.Path.{_≡_, refl, ap, _∙_, subst}
 use mathlib.Core.Bool.{Bool, true, false, cond}
 use mathlib.Core.List.{List, [], _∷_, _++_}
 use Prim.Native.Nat.{ℕ}
 use borrow.Author.Tests.{eqb-true, eq-eqb}
 use lib.Dec.{eqb}
-use Rattle.placement.proofs.Tests.{by-test}
 use Rattle.plan_text.specs.Parse.{Parse, parsed, unparsed, next, byte, literal}
-use Rattle.plan_text.proofs.Choices.{cond-true, cond-false}
+use Rattle.plan_text.proofs.Choices.{cond-true}
 
+-- Nothing was read.
 abbrev Fails : {A : Type 0} → Parse A → Type 0
 Fails (parsed a rest) = ⊥
 Fails unparsed = Unit {0}
@@ -17,6 +17,7 @@ Fails unparsed = Unit {0}
 pub unparsed-parsed : {A P : Type 0} {a : A} {r : List ℕ} → unparsed ≡ parsed a r → P
 unparsed-parsed e = absurd (subst Fails e tt)
 
+-- The parts of what was read.
 abbrev valueOr : {A : Type 0} → A → Parse A → A
 valueOr d (parsed a rest) = a
 valueOr d unparsed = d
@@ -25,6 +26,7 @@ abbrev restOf : {A : Type 0} → Parse A → List ℕ
 restOf (parsed a rest) = rest
 restOf unparsed = []
 
+-- Equal results have equal values, and equal rests.
 pub parsed-value : {A : Type 0} {a b : A} {r s : List ℕ} → parsed a r ≡ parsed b s → a ≡ b
 parsed-value {a} e = ap (valueOr a) e
 
@@ -43,21 +45,25 @@ pub chosen-parsed : {A P : Type 0} {a : A} {r : List ℕ} (b : Bool) (p : Parse 
 chosen-parsed true p e goal = goal refl e
 chosen-parsed false p e goal = unparsed-parsed e
 
+-- A byte that was read is the one expected.
 pub byte-sound : {u : Unit {0}} (x : ℕ) (t r : List ℕ) → byte x t ≡ parsed u r → t ≡ x ∷ r
 byte-sound x [] r e = unparsed-parsed e
 byte-sound x (b ∷ bs) r e =
     chosen-parsed (eqb b x) (parsed tt bs) e
     (λ same read. ap (λ (c : ℕ). c ∷ bs) (eqb-true b x same) ∙ ap {B = List ℕ} (λ s. x ∷ s) (parsed-rest read))
 
+-- The expected byte is read.
 pub byte-complete : (x : ℕ) (r : List ℕ) → byte x (x ∷ r) ≡ parsed tt r
 byte-complete x r = cond-true (eqb x x) _ _ (eq-eqb x x refl)
 
+-- A literal that was read stands at the front.
 pub literal-sound : {u : Unit {0}} (ls t r : List ℕ) → literal ls t ≡ parsed u r → t ≡ ls ++ r
 literal-sound [] t r e = parsed-rest e
 literal-sound (x ∷ ls) t r e =
     next-parsed (byte x t) (λ u after. literal ls after) e
     (λ u after first rest. byte-sound x t after first ∙ ap {B = List ℕ} (λ s. x ∷ s) (literal-sound ls after r rest))
 
+-- A literal at the front is read.
 pub literal-complete : (ls r : List ℕ) → literal ls (ls ++ r) ≡ parsed tt r
 literal-complete [] r = refl
 literal-complete (x ∷ ls) r =

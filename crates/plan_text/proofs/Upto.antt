@@ -1,8 +1,8 @@
 -- The first lines of a text: one line and the lines behind it, and the text as its first lines and a rest.
-use mathlib.Core.Path.{_≡_, refl, sym, ap, _∙_, subst}
+use mathlib.Core.Path.{_≡_, refl, sym, ap, _∙_}
 use mathlib.Core.Bool.{Bool, true, false, cond, not, _&&_}
 use mathlib.Core.List.{List, [], _∷_, _++_}
-use Prim.Native.Nat.{ℕ, zero, suc, _≤_, _+_}
+use Prim.Native.Nat.{ℕ, zero, suc, _≤_}
 use native.Mathlib.Omega.{arith}
 use borrow.Author.Tests.{not-true}
 use lib.Dec.{eqb}
@@ -15,12 +15,14 @@ abbrev pub oneLine : List ℕ → Bool
 oneLine [] = true
 oneLine (b ∷ bs) = not (eqb b lineFeed) && oneLine bs
 
+-- Two parts without a line feed make one without.
 pub oneLine-append : (xs ys : List ℕ) → oneLine xs ≡ true → oneLine ys ≡ true → oneLine (xs ++ ys) ≡ true
 oneLine-append [] ys p q = q
 oneLine-append (x ∷ xs) ys p q =
     and-true (not (eqb x lineFeed)) (oneLine (xs ++ ys)) (and-left (not (eqb x lineFeed)) (oneLine xs) p)
     (oneLine-append xs ys (and-right (not (eqb x lineFeed)) (oneLine xs) p) q)
 
+-- No lines are no bytes.
 pub upto-zero : (t : List ℕ) → upto zero t ≡ []
 upto-zero [] = refl
 upto-zero (b ∷ bs) = refl

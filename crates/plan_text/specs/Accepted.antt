@@ -1,7 +1,7 @@
 -- Accepted texts, and the line that is refused in a text that is not accepted.
 use Prim.Native.Nat.{ℕ, zero, suc}
 use mathlib.Core.Path.{_≡_}
-use mathlib.Core.Bool.{Bool, true, cond}
+use mathlib.Core.Bool.{true, cond}
 use mathlib.Core.List.{List, [], _∷_}
 use lib.Dec.{eqb}
 use Rattle.plan_text.specs.Plan.{Plan, wellFormed}

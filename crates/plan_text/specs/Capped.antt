@@ -4,8 +4,10 @@ use mathlib.Core.List.{List}
 use Rattle.plan_text.specs.Plan.{Plan}
 use Rattle.plan_text.specs.Reading.{Reading, planReadWith}
 
+-- A number, or 2³² − 1 where it is larger.
 abbrev pub saturated : ℕ → ℕ
 saturated n = min n 4294967295
 
+-- The whole text, with such numbers.
 unfoldable pub planReadCapped : List ℕ → Reading Plan
 planReadCapped text = planReadWith saturated text

@@ -2,7 +2,7 @@
 use Prim.Native.Nat.{ℕ}
 use Prim.Native.String.{String}
 use mathlib.Core.List.{List, [], _∷_, map}
-use Rattle.placement.specs.Items.{Item, item}
+use Rattle.placement.specs.Items.{item}
 use Rattle.plan_text.specs.Ascii.{ascii}
 use Rattle.plan_text.specs.Plan.{Plan}
 use Rattle.plan_text.specs.Text.{lines}
@@ -16,6 +16,7 @@ pub record Example : Type 0 where
   pub text : List ℕ
   pub numbers : ReadNumbers
 
+-- A text that is read, with its numbers.
 abbrev plan : List ℕ → (disks slots streams served unserved left : ℕ) → Example
 plan text n k l s u left = record {
   text = text;
@@ -29,6 +30,7 @@ refusedAt n text = record {
   numbers = record { refusal = 9; second = n; disks = 0; slots = 0; streams = 0; served = 0; unserved = 0; left = 0 };
 }
 
+-- Case A's text, whole.
 abbrev pub caseAText : List ℕ
 caseAText =
     ended
@@ -40,6 +42,7 @@ caseAText =
     ∷ "(served 16 2)"
     ∷ [])
 
+-- Case A's plan.
 abbrev pub caseAPlan : Plan
 caseAPlan = record {
   disks = 3;
@@ -57,6 +60,7 @@ caseAPlan = record {
 abbrev small : List String → List ℕ
 small ls = ended ("(rack 1 2 5)" ∷ ls)
 
+-- Texts that are read.
 abbrev pub accepted : List Example
 accepted =
     plan caseAText 3 4 6 16 2 2
@@ -64,6 +68,7 @@ accepted =
     ∷ plan (small ("(disk 1 (2 3) (1 2))" ∷ "(left (1 1) (65535 1000000))" ∷ "(served 5 1000001)" ∷ [])) 1 2 5 5 1000001 2
     ∷ []
 
+-- Texts whose first line is refused.
 abbrev pub refusedAtLine1 : List Example
 refusedAtLine1 =
     map (refusedAt 1)
@@ -79,6 +84,7 @@ refusedAtLine1 =
     ∷ ended ("(Rack 1 2 5)" ∷ [])
     ∷ [])
 
+-- Texts whose second line is refused.
 abbrev pub refusedAtLine2 : List Example
 refusedAtLine2 =
     map (refusedAt 2)
@@ -97,6 +103,7 @@ refusedAtLine2 =
     ∷ small ("(disk 1 (7 1) )" ∷ [])
     ∷ [])
 
+-- Texts that are refused later.
 abbrev pub refusedLater : List Example
 refusedLater =
     refusedAt 3 (small ("(disk 1)" ∷ "(left (2 1) (1 1))" ∷ []))

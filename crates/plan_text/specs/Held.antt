@@ -19,6 +19,7 @@ planHeld disks slots streams t left = record {
   left = leftHeld left t;
 }
 
+-- All of the numbers are zero.
 abbrev pub allZero : List ℕ → Bool
 allZero [] = true
 allZero (x ∷ xs) = eqb x 0 && allZero xs

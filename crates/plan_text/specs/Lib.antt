@@ -11,3 +11,4 @@ pub mod ReadCall
 pub mod WriteCall
 pub mod Examples
 pub mod CallExamples
+pub mod Longest

@@ -1,10 +1,10 @@
 -- Pieces of text read from the front of a list of bytes: literals, numbers, pairs. A number passes through `cap` at each digit.
 use Prim.Native.Nat.{ℕ, zero, suc, _+_, _-_, _*_}
 use mathlib.Core.Bool.{Bool, cond, _&&_}
-use mathlib.Core.List.{List, [], _∷_, _++_}
+use mathlib.Core.List.{List, [], _∷_}
 use lib.Dec.{leb, eqb}
 use Rattle.placement.specs.Items.{Item, item}
-use Rattle.plan_text.specs.Text.{space, opened, closed, lineFeed}
+use Rattle.plan_text.specs.Text.{space, opened, closed}
 
 -- What was read and the bytes after it, or nothing where the bytes do not fit.
 pub data Parse (A : Type 0) : Type 0 where
@@ -26,6 +26,7 @@ abbrev pub literal : List ℕ → List ℕ → Parse (Unit {0})
 literal [] text = parsed tt text
 literal (expected ∷ rest) text = next (byte expected text) (λ u after. literal rest after)
 
+-- A byte from 48 to 57.
 abbrev pub isDigit : ℕ → Bool
 isDigit b = leb 48 b && leb b 57
 

@@ -1,5 +1,5 @@
 -- Plans as values, and which of them are well formed.
-use Prim.Native.Nat.{ℕ, zero, suc}
+use Prim.Native.Nat.{ℕ}
 use mathlib.Core.Bool.{Bool, true, _&&_}
 use mathlib.Core.List.{List, [], _∷_}
 use lib.Dec.{leb, ltb, eqb}
@@ -39,6 +39,7 @@ abbrev pub diskAccepted : ℕ → ℕ → List Item → Bool
 diskAccepted slots streams copies =
     leb (length copies) slots && (distinctFilms copies && (every copyAccepted copies && leb (total copies) streams))
 
+-- Every disk of a plan is accepted.
 abbrev pub disksAccepted : ℕ → ℕ → List (List Item) → Bool
 disksAccepted slots streams [] = true
 disksAccepted slots streams (copies ∷ rest) =
@@ -68,5 +69,6 @@ wellFormed p =
 abbrev pub servedOf : Plan → ℕ
 servedOf p = served (p .copies)
 
+-- U is the sum over what is left.
 abbrev pub unservedOf : Plan → ℕ
 unservedOf p = total (p .left)

@@ -52,6 +52,7 @@ pub record ReadNumbers : Type 0 where
   pub unserved : ℕ
   pub left : ℕ
 
+-- The numbers that a verdict gives.
 abbrev pub answerTo : Verdict → ReadNumbers
 answerTo (plan p) = record {
   refusal = 0;

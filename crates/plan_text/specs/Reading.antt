@@ -1,5 +1,5 @@
 -- A plan's text read line by line. What is determined is compared: the disk's number, S and U.
-use Prim.Native.Nat.{ℕ, zero, suc, _+_, min}
+use Prim.Native.Nat.{ℕ, zero, suc, _+_}
 use mathlib.Core.Bool.{Bool, true, cond}
 use mathlib.Core.List.{List, [], _∷_}
 use Rattle.placement.specs.Items.{Item, total}
@@ -19,6 +19,7 @@ abbrev pub line : {A : Type 0} → (List ℕ → Parse A) → (A → Bool) → L
 line body test text =
     next (body text) (λ a t₁. next (byte lineFeed t₁) (λ u t₂. cond (test a) (parsed a t₂) unparsed))
 
+-- The rest's value joined to a line's, or the rest's refusal one line further.
 abbrev pub joined : {B C : Type 0} → (B → C) → Reading B → Reading C
 joined join (whole b) = whole (join b)
 joined join (refusedAfter n) = refusedAfter (suc n)
@@ -39,9 +40,11 @@ pub record Tail : Type 0 where
   pub copies : List (List Item)
   pub left : List Item
 
+-- N, k and L are in range.
 abbrev pub sizesAccepted : Sizes → Bool
 sizesAccepted z = rackAccepted (z .disks) (z .slots) (z .streams)
 
+-- `(rack N k L)`.
 abbrev pub rackBody : (ℕ → ℕ) → List ℕ → Parse Sizes
 rackBody cap text =
     next (literal (ascii "(rack ") text) (λ u₁ t₁.
@@ -52,6 +55,7 @@ rackBody cap text =
     next (number cap t₅) (λ l t₆.
     next (byte closed t₆) (λ u₄ t₇. parsed (record { disks = n; slots = k; streams = l }) t₇)))))))
 
+-- A line's head, then its pairs and closing bracket.
 abbrev pub pairsBody : (ℕ → ℕ) → List ℕ → ℕ → List ℕ → Parse (List Item)
 pairsBody cap head most text = next (literal head text) (λ u t. pairs cap most t)
 
@@ -70,6 +74,7 @@ readLeft cap s text =
     lineThen (λ left u. record { copies = []; left = left })
     (line (pairsBody cap leftHead mostLeft) leftAccepted text) (λ left. readServed s (total left))
 
+-- One more disk in front.
 abbrev pub withDisk : List Item → Tail → Tail
 withDisk copies tail = record { copies = copies ∷ tail .copies; left = tail .left }
 
@@ -80,6 +85,7 @@ readDisks cap slots streams (suc n) number s text =
     lineThen withDisk (line (pairsBody cap (diskHead number) slots) (diskAccepted slots streams) text)
     (λ copies. readDisks cap slots streams n (suc number) (s + total copies))
 
+-- The rack's numbers and what stands behind them.
 abbrev pub withSizes : Sizes → Tail → Plan
 withSizes z tail = record {
   disks = z .disks;

@@ -25,9 +25,11 @@ roomStated c =
     leb (c .disks * c .slots) (copyPlaces (c .tables))
     && (leb (c .disks) (countPlaces (c .tables)) && leb (c .left) (leftPlaces (c .tables)))
 
+-- The plan that the call's tables hold.
 abbrev pub planOf : WriteCall → Plan
 planOf c = planHeld (c .disks) (c .slots) (c .streams) (c .tables) (c .left)
 
+-- They hold a well-formed plan.
 abbrev pub wellFormedCall : WriteCall → Bool
 wellFormedCall c = heldWellFormed (c .disks) (c .slots) (c .streams) (c .tables) (c .left)
 
@@ -51,6 +53,7 @@ pub record WriteNumbers : Type 0 where
   pub second : ℕ
   pub length : ℕ
 
+-- The numbers that a verdict gives.
 abbrev pub writeAnswer : WriteCall → Verdict → WriteNumbers
 writeAnswer c planned = record { refusal = 0; second = 0; length = length (textOf (planOf c)) }
 writeAnswer c (refused number second) = record { refusal = number; second = second; length = 0 }

@@ -1,0 +1,109 @@
+-- How long decimal numbers and lines with pairs are.
+use mathlib.Core.Path.{_≡_, ap, _∙_}
+use mathlib.Core.Bool.{true}
+use mathlib.Core.List.{List, [], _∷_, _++_}
+use Prim.Native.Nat.{ℕ, suc, _+_, _*_, _/_, _%_, _≤_, _<_}
+use native.Mathlib.Omega.{arith}
+use lib.ListN.{length, length-append}
+use Rattle.placement.specs.Items.{Item, total}
+use Rattle.placement.proofs.Tests.{by-order}
+use Rattle.plan_text.specs.Decimal.{digit, decimal}
+use Rattle.plan_text.specs.Text.{space, closed, pairText, pairsText}
+use Rattle.plan_text.specs.Plan.{every, copyAccepted, leftFilmAccepted}
+use Rattle.plan_text.proofs.Choices.{and-left, and-right}
+use Rattle.plan_text.proofs.Decimals.{decimal-small, decimal-large}
+use Rattle.plan_text.proofs.Limits.{copy-film, left-film, left-amount}
+
+-- A number below 10 has one digit.
+pub length-1 : (n : ℕ) → n < 10 → length (decimal n) ≤ 1
+length-1 n h = let e : length (decimal n) ≡ 1 = ap length (decimal-small n h) in omega arith
+
+-- One place more for ten times as large numbers.
+length-step : (m d : ℕ) → ((n : ℕ) → n < m → length (decimal n) ≤ d) → 1 ≤ d → (n : ℕ) → n < m * 10 → length (decimal n) ≤ suc d
+length-step m d fewer g n h =
+    by-order n 10
+    (λ less. omega (arith, length-1 n less))
+    (λ more.
+    let e : length (decimal n) ≡ length (decimal (n / 10)) + 1 = ap length (decimal-large n more) ∙ length-append (decimal (n / 10)) (digit (n % 10) ∷ []) in
+    omega (arith, fewer (n / 10) (omega arith)))
+
+-- A number below 10 to the d has at most d digits, for d up to 10.
+pub length-2 : (n : ℕ) → n < 100 → length (decimal n) ≤ 2
+length-2 = length-step 10 1 length-1 (omega arith)
+
+length-3 : (n : ℕ) → n < 1000 → length (decimal n) ≤ 3
+length-3 = length-step 100 2 length-2 (omega arith)
+
+length-4 : (n : ℕ) → n < 10000 → length (decimal n) ≤ 4
+length-4 = length-step 1000 3 length-3 (omega arith)
+
+pub length-5 : (n : ℕ) → n < 100000 → length (decimal n) ≤ 5
+length-5 = length-step 10000 4 length-4 (omega arith)
+
+length-6 : (n : ℕ) → n < 1000000 → length (decimal n) ≤ 6
+length-6 = length-step 100000 5 length-5 (omega arith)
+
+pub length-7 : (n : ℕ) → n < 10000000 → length (decimal n) ≤ 7
+length-7 = length-step 1000000 6 length-6 (omega arith)
+
+length-8 : (n : ℕ) → n < 100000000 → length (decimal n) ≤ 8
+length-8 = length-step 10000000 7 length-7 (omega arith)
+
+length-9 : (n : ℕ) → n < 1000000000 → length (decimal n) ≤ 9
+length-9 = length-step 100000000 8 length-8 (omega arith)
+
+pub length-10 : (n : ℕ) → n < 10000000000 → length (decimal n) ≤ 10
+length-10 = length-step 1000000000 9 length-9 (omega arith)
+
+-- A digit more than four costs 9,000: the places of a number of viewers, in ninths of a thousand.
+length-weighed : (v : ℕ) → v ≤ 65535 → 9000 * length (decimal v) ≤ 35000 + v
+length-weighed v h =
+    by-order v 1000 (λ less. omega (arith, length-3 v less))
+    (λ a. by-order v 10000 (λ less. omega (arith, length-4 v less)) (λ b. omega (arith, length-5 v (omega arith))))
+
+-- Two brackets and a space, and the two numbers.
+length-pair : (x : Item) → length (pairText x) ≡ 3 + length (decimal (x .film)) + length (decimal (x .amount))
+length-pair x =
+    omega (
+      arith,
+      length-append (decimal (x .film)) (space ∷ (decimal (x .amount) ++ (closed ∷ []))),
+      length-append (decimal (x .amount)) (closed ∷ []),
+    )
+
+-- The pairs of c copies with v viewers in sum.
+pub length-copies : (xs : List Item) → every copyAccepted xs ≡ true → total xs ≤ 65535
+    → 9000 * length (pairsText xs) ≤ 9000 + 116000 * length xs + total xs
+length-copies [] e h = omega arith
+length-copies (x ∷ xs) e h =
+    omega (
+      arith,
+      length-append (pairText x) (pairsText xs),
+      length-pair x,
+      length-5 (x .film) (omega (arith, copy-film x (and-left (copyAccepted x) (every copyAccepted xs) e))),
+      length-weighed (x .amount) (omega arith),
+      length-copies xs (and-right (copyAccepted x) (every copyAccepted xs) e) (omega arith),
+    )
+
+-- The pairs of c left films.
+pub length-left : (xs : List Item) → every leftFilmAccepted xs ≡ true → length (pairsText xs) ≤ 1 + 16 * length xs
+length-left [] e = omega arith
+length-left (x ∷ xs) e =
+    let here = and-left (leftFilmAccepted x) (every leftFilmAccepted xs) e in
+    omega (
+      arith,
+      length-append (pairText x) (pairsText xs),
+      length-pair x,
+      length-5 (x .film) (omega (arith, left-film x here)),
+      length-7 (x .amount) (omega (arith, left-amount x here)),
+      length-left xs (and-right (leftFilmAccepted x) (every leftFilmAccepted xs) e),
+    )
+
+-- Left amounts sum to at most 1,000,000 for each film.
+pub total-left : (xs : List Item) → every leftFilmAccepted xs ≡ true → total xs ≤ 1000000 * length xs
+total-left [] e = omega arith
+total-left (x ∷ xs) e =
+    omega (
+      arith,
+      left-amount x (and-left (leftFilmAccepted x) (every leftFilmAccepted xs) e),
+      total-left xs (and-right (leftFilmAccepted x) (every leftFilmAccepted xs) e),
+    )
