@@ -1,6 +1,6 @@
 // The copies of one disk: films distinct and in range, each with viewers, and at most the disk's streams in sum.
 use crate::entry;
-use crate::places;
+use crate::sum;
 ghost use mathlib.Core.Path.{_≡_};
 ghost use lib.Dec.{leb, eqb};
 ghost use lib.ListN.{drop};
@@ -68,8 +68,8 @@ fn within_streams(streams: u32, films: &[u32], viewers: &[u32]) -> bool
     ensures { λ r. ⌜ r ≡ leb (total (entries (now (films .entry)) (now (viewers .entry)))) streams ⌝ }
 {
     let n = entry::count(films, viewers);
-    let sum = places::total(&viewers[..n]);
-    sum <= streams as u64
+    let viewed = sum::total(&viewers[..n]);
+    viewed <= streams as u64
 }
 
 // Whether a disk of so many slots and streams can hold the copies.

@@ -3,8 +3,9 @@ mod copies;
 mod entry;
 mod left;
 mod places;
+mod sum;
 
 pub use copies::disk_accepted;
 pub use left::left_accepted;
 pub use places::all_zero;
-pub use places::total;
+pub use sum::total;

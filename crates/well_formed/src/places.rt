@@ -1,8 +1,6 @@
-// Places of one slice: whether all are zero, and their sum.
+// Unused places of one slice.
 ghost use mathlib.Core.Path.{_≡_};
-ghost use Prim.Native.Nat.{_+_};
 ghost use Rattle.plan_text.specs.Held.{allZero};
-ghost use Rattle.well_formed.specs.Sum.{Summed, capped};
 
 // Whether every place is zero. What is left gives the answer for the whole.
 pub fn all_zero(places: &[u32]) -> bool
@@ -16,28 +14,4 @@ pub fn all_zero(places: &[u32]) -> bool
         i += 1;
     }
     true
-}
-
-// A sum and a number more, or the largest number of 64 bits.
-fn plus(sum: u64, n: u32) -> u64
-    ensures { λ r. ⌜ r ≡ capped (sum + n) ⌝ }
-{
-    let more = n as u64;
-    if sum <= u64::MAX - more {
-        return sum + more;
-    }
-    u64::MAX
-}
-
-// The sum of all places, or the largest number of 64 bits where the sum passes it.
-pub fn total(amounts: &[u32]) -> u64
-    ensures { λ r. ⌜ Summed (now (amounts .entry)) r ⌝ }
-{
-    let mut sum = 0;
-    let mut i = 0;
-    while i < amounts.len() {
-        sum = plus(sum, amounts[i]);
-        i += 1;
-    }
-    sum
 }

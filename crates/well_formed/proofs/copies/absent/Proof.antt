@@ -12,7 +12,9 @@ use Rattle.well_formed.proofs.copies.absent.Statement.{statement}
 use Rattle.well_formed.proofs.copies.absent.Tie as tie
 
 abbrev Inv-loop : tie.InvT-loop
-Inv-loop film films viewers from n i₀ i = occurrences film (drop from (entries films viewers)) ≡ occurrences film (drop i (entries films viewers))
+Inv-loop film films viewers from n i₀ i =
+    occurrences film (drop from (entries films viewers))
+    ≡ occurrences film (drop i (entries films viewers))
 
 abbrev μ-loop : tie.MeasureT-loop
 μ-loop film films viewers from n i₀ i = n - i
@@ -33,7 +35,9 @@ returns : tie.Need-returns Inv-loop μ-loop
 returns c =
     let at-turn = c .before .before in
     let at-loop = at-turn .before in
-    sym (ap (λ (n : ℕ). eqb n 0) (at-loop .loop .inv) ∙ occurrences-found (at-loop .before .count .ensures) (at-turn .loop-test .taken) _ (c .if1 .taken))
+    sym
+    (ap (λ (n : ℕ). eqb n 0) (at-loop .loop .inv)
+    ∙ occurrences-found (at-loop .before .count .ensures) (at-turn .loop-test .taken) _ (c .if1 .taken))
 
 add-i : tie.Need-add-i Inv-loop μ-loop
 add-i c = search needs

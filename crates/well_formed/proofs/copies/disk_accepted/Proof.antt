@@ -1,5 +1,6 @@
 -- `well_formed::disk_accepted` meets its contract: the tests are those of `diskAccepted`, in its order.
 use mathlib.Core.Path.{refl, sym, _∙_}
+use native.Mathlib.Omega.{arith}
 use borrow.Author.Needs.{needs}
 use borrow.Author.Tests.{not-true, not-false}
 use Rattle.well_formed.proofs.Conjunction.{first-holds, first-fails}
@@ -11,7 +12,7 @@ count-requires : tie.Need-count-requires
 count-requires c κs = search needs
 
 returns : tie.Need-returns
-returns c = sym (first-fails _ _ refl (too-many (c .before .count .ensures) (c .if1 .taken)))
+returns c = sym (first-fails _ _ refl (too-many (c .before .count .ensures) (omega arith)))
 
 distinct-films-requires : tie.Need-distinct-films-requires
 distinct-films-requires c κs = search needs
@@ -20,7 +21,7 @@ returns-2 : tie.Need-returns-2
 returns-2 c =
     let at-else = c .before .before in
     sym
-    (first-holds _ _ refl (few-enough (at-else .before .count .ensures) (at-else .if1 .left))
+    (first-holds _ _ refl (few-enough (at-else .before .count .ensures) (omega arith))
     ∙ first-fails _ _ refl (sym (c .before .distinct-films .ensures) ∙ not-true _ (c .if2 .taken)))
 
 every-copy-accepted-requires : tie.Need-every-copy-accepted-requires
@@ -31,7 +32,7 @@ returns-3 c =
     let at-distinct = c .before .before .before in
     let at-else = at-distinct .before in
     sym
-    (first-holds _ _ refl (few-enough (at-else .before .count .ensures) (at-else .if1 .left))
+    (first-holds _ _ refl (few-enough (at-else .before .count .ensures) (omega arith))
     ∙ first-holds _ _ refl (sym (at-distinct .distinct-films .ensures) ∙ not-false _ (c .before .before .if2 .left))
     ∙ first-fails _ _ refl (sym (c .before .every-copy-accepted .ensures) ∙ not-true _ (c .if3 .taken)))
 
@@ -45,7 +46,7 @@ returns-4 c =
     let at-else = at-distinct .before in
     c .within-streams .ensures
     ∙ sym
-    (first-holds _ _ refl (few-enough (at-else .before .count .ensures) (at-else .if1 .left))
+    (first-holds _ _ refl (few-enough (at-else .before .count .ensures) (omega arith))
     ∙ first-holds _ _ refl (sym (at-distinct .distinct-films .ensures) ∙ not-false _ (at-every .before .if2 .left))
     ∙ first-holds _ _ refl (sym (at-every .every-copy-accepted .ensures) ∙ not-false _ (c .before .if3 .left)))
 

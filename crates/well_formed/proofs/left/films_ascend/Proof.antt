@@ -1,6 +1,7 @@
--- `well_formed::films_ascend` meets its contract. The invariant: the films not yet passed, above the last one passed, give the answer for all.
+-- `well_formed::films_ascend` meets its contract. The invariant: the films not yet passed, above the last one passed, give the answer.
 use mathlib.Core.Path.{_≡_, sym, ap, _∙_}
 use Prim.Native.Nat.{_-_}
+use native.Mathlib.Omega.{arith}
 use borrow.Author.Needs.{needs}
 use lib.ListN.{drop}
 use Rattle.placement.specs.Held.{entries}
@@ -11,7 +12,9 @@ use Rattle.well_formed.proofs.left.films_ascend.Statement.{statement}
 use Rattle.well_formed.proofs.left.films_ascend.Tie as tie
 
 abbrev Inv-loop : tie.InvT-loop
-Inv-loop films amounts n last₀ i₀ last i = ascendingAbove 0 (entries films amounts) ≡ ascendingAbove last (drop i (entries films amounts))
+Inv-loop films amounts n last₀ i₀ last i =
+    ascendingAbove 0 (entries films amounts)
+    ≡ ascendingAbove last (drop i (entries films amounts))
 
 abbrev μ-loop : tie.MeasureT-loop
 μ-loop films amounts n last₀ i₀ last i = n - i
@@ -34,7 +37,7 @@ returns c =
     let at-loop = at-turn .before in
     sym
     (at-loop .loop .inv
-    ∙ ascending-fails (at-loop .before .count .ensures) (at-turn .loop-test .taken) _ (c .if1 .taken))
+    ∙ ascending-fails (at-loop .before .count .ensures) (at-turn .loop-test .taken) _ (omega arith))
 
 add-i : tie.Need-add-i Inv-loop μ-loop
 add-i c = search needs
@@ -47,7 +50,7 @@ loop-again c =
     let at-turn = c .before .before in
     let at-loop = at-turn .before in
     at-loop .loop .inv
-    ∙ ascending-passes (at-loop .before .count .ensures) (at-turn .loop-test .taken) _ (c .if1 .left)
+    ∙ ascending-passes (at-loop .before .count .ensures) (at-turn .loop-test .taken) _ (omega arith)
 
 returns-2 : tie.Need-returns-2 Inv-loop μ-loop
 returns-2 c =

@@ -7,8 +7,8 @@ use lib.ListN.{length, take}
 use lib.Seq.{take-all}
 use Rattle.well_formed.specs.Sum.{sumList, capped}
 use Rattle.well_formed.proofs.Sums.{sumList-more}
-use Rattle.well_formed.proofs.places.total.Statement.{statement}
-use Rattle.well_formed.proofs.places.total.Tie as tie
+use Rattle.well_formed.proofs.sum.total.Statement.{statement}
+use Rattle.well_formed.proofs.sum.total.Tie as tie
 
 abbrev Inv-loop : tie.InvT-loop
 Inv-loop amounts sum₀ i₀ sum i =
