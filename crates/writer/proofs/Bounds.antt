@@ -18,6 +18,7 @@ use Rattle.plan_text.proofs.Limits.{disk-few, disk-total}
 use Rattle.writer.specs.Space.{twoText, diskLines}
 use Rattle.writer.proofs.Texts.{two-length, disk-length}
 
+-- The digits of a number are at most its value and one, by steps.
 decimal-within : (s n : ℕ) → n ≤ s → length (decimal n) ≤ n + 1
 decimal-within zero n h = omega (arith, ap length (decimal-small n (omega arith)))
 decimal-within (suc s) n h =
@@ -34,6 +35,7 @@ decimal-within (suc s) n h =
 pub decimal-short : (n : ℕ) → length (decimal n) ≤ n + 1
 decimal-short n = decimal-within n n (omega arith)
 
+-- Two numbers in a row take at most their values and 4 bytes.
 pub two-short : (a b : ℕ) → length (twoText a b) ≤ a + b + 4
 two-short a b = omega (arith, two-length a b, decimal-short a, decimal-short b)
 

@@ -41,12 +41,15 @@ module _ (c : WriteCall) where
       (eq-eqb _ _ (copies-length (c .disks) (c .slots) (c .streams) (c .tables .films) (c .tables .viewers) (c .tables .counts) counted))
 
   module _ (room : roomStated c ≡ true) where
+    -- The copy table has N × k places.
     copy-places : c .disks * c .slots ≤ copyPlaces (c .tables)
     copy-places = leb-true (c .disks * c .slots) (copyPlaces (c .tables)) (and-left (leb (c .disks * c .slots) (copyPlaces (c .tables))) _ room)
 
+    -- What is stated behind the copy table.
     behind : (leb (c .disks) (countPlaces (c .tables)) && leb (c .left) (leftPlaces (c .tables))) ≡ true
     behind = and-right (leb (c .disks * c .slots) (copyPlaces (c .tables))) _ room
 
+    -- The left table has the stated number of places.
     left-places : c .left ≤ leftPlaces (c .tables)
     left-places = leb-true (c .left) (leftPlaces (c .tables)) (and-right (leb (c .disks) (countPlaces (c .tables))) _ behind)
 
@@ -62,31 +65,40 @@ module _ (c : WriteCall) where
     pub room-leftFilms : c .left ≤ length (c .tables .leftFilms)
     room-leftFilms = omega (arith, left-places)
 
+    -- So have its amounts.
     pub room-leftAmounts : c .left ≤ length (c .tables .leftAmounts)
     room-leftAmounts = omega (arith, left-places)
 
   -- The parts of the test for a well-formed plan.
   module _ (formed : wellFormedCall c ≡ true) where
+    -- The plan value is well formed.
     pub formed-plan : wellFormed (planOf c) ≡ true
     formed-plan = and-right (unusedZeroHeld (c .disks) (c .slots) (c .streams) (c .tables)) (wellFormed (planOf c)) formed
 
+    -- What is tested behind the rack.
     behind-rack : (eqb (length (planOf c .copies)) (c .disks) && (disksAccepted (c .slots) (c .streams) (planOf c .copies) && leftAccepted (planOf c .left))) ≡ true
     behind-rack = and-right (rackAccepted (c .disks) (c .slots) (c .streams)) _ formed-plan
 
+    -- What is tested behind the number of disks.
     behind-count : (disksAccepted (c .slots) (c .streams) (planOf c .copies) && leftAccepted (planOf c .left)) ≡ true
     behind-count = and-right (eqb (length (planOf c .copies)) (c .disks)) _ behind-rack
 
+    -- The unused places are zero.
     pub formed-unused : unusedZeroFrom (rackOf (c .disks) (c .slots) (c .streams)) (c .tables .films) (c .tables .viewers) (c .tables .counts) ≡ true
     formed-unused = and-left (unusedZeroHeld (c .disks) (c .slots) (c .streams) (c .tables)) (wellFormed (planOf c)) formed
 
+    -- The rack is accepted.
     pub formed-rack : rackAccepted (c .disks) (c .slots) (c .streams) ≡ true
     formed-rack = and-left (rackAccepted (c .disks) (c .slots) (c .streams)) _ formed-plan
 
+    -- The plan has a list of copies for each disk.
     pub formed-count : length (planOf c .copies) ≡ c .disks
     formed-count = eqb-true _ _ (and-left (eqb (length (planOf c .copies)) (c .disks)) _ behind-rack)
 
+    -- The disks are accepted.
     pub formed-disks : disksAccepted (c .slots) (c .streams) (planOf c .copies) ≡ true
     formed-disks = and-left (disksAccepted (c .slots) (c .streams) (planOf c .copies)) _ behind-count
 
+    -- What is left is accepted.
     pub formed-left : leftAccepted (planOf c .left) ≡ true
     formed-left = and-right (disksAccepted (c .slots) (c .streams) (planOf c .copies)) _ behind-count

@@ -31,9 +31,11 @@ module _ (disks k l : ℕ) (films viewers counts : List ℕ) where
   abbrev pub linesAt : ℕ → List ℕ
   linesAt d = diskLines (d + 1) (copiesAt disks k l films viewers counts d)
 
+  -- From disk 0 on stand the lines of all disks.
   pub lines-start : linesAt 0 ≡ diskLines 1 (copiesFrom (rackOf disks k l) films viewers counts)
   lines-start = from-start disks k l films viewers counts (λ ds f v c. diskLines 1 (copiesFrom ds f v c))
 
+  -- Behind the last disk no line is left.
   pub lines-end : (d : ℕ) → disks ≤ d → linesAt d ≡ []
   lines-end d h =
       let none : disks - d ≡ 0 = omega arith in
@@ -44,16 +46,19 @@ module _ (disks k l : ℕ) (films viewers counts : List ℕ) where
     abbrev part : List ℕ → List ℕ
     part xs = take (d * k + getD counts d 0 - d * k) (drop (d * k) xs)
 
+    -- The part that is lent holds disk d's copies.
     pub part-copies : (xs : List ℕ) → part xs ≡ take (getD counts d 0) (drop (d * k) xs)
     part-copies xs =
         let e : d * k + getD counts d 0 - d * k ≡ getD counts d 0 = omega arith in
         ap (λ (n : ℕ). take n (drop (d * k) xs)) e
 
+    -- Disk d's copies are the entries of the parts that are lent.
     lent-copies : copiesOn disks k l films viewers counts d ≡ entries (part films) (part viewers)
     lent-copies =
         ap (λ (f : List ℕ). entries f (take (getD counts d 0) (drop (d * k) viewers))) (sym (part-copies films))
         ∙ ap (entries (part films)) (sym (part-copies viewers))
 
+    -- Disk d's line, then the lines from the next disk on.
     pub lines-next : linesAt d ≡ ended (diskLine (d + 1) (entries (part films) (part viewers))) ++ linesAt (d + 1)
     lines-next =
         ap (diskLines (d + 1)) (copies-next disks k l films viewers counts d more counted)
@@ -61,6 +66,7 @@ module _ (disks k l : ℕ) (films viewers counts : List ℕ) where
         ∙ ap (λ (n : ℕ). diskLine (d + 1) (entries (part films) (part viewers)) ++ (lineFeed ∷ diskLines n (copiesAt disks k l films viewers counts (d + 1)))) (sym (add-one (d + 1)))
         ∙ sym (append-assoc (diskLine (d + 1) (entries (part films) (part viewers))) (lineFeed ∷ []) (linesAt (d + 1)))
 
+    -- The lengths of both.
     pub lines-next-length : length (linesAt d) ≡ length (ended (diskLine (d + 1) (entries (part films) (part viewers)))) + length (linesAt (d + 1))
     lines-next-length =
         ap length lines-next

@@ -37,9 +37,11 @@ module _ (disks k l : ℕ) (films viewers counts : List ℕ) where
   abbrev pub copiesAt : ℕ → List (List Item)
   copiesAt d = copiesFrom (rackOf (disks - d) k l) (drop (d * k) films) (drop (d * k) viewers) (drop d counts)
 
+  -- The test of the unused places from disk d on.
   abbrev pub unusedAt : ℕ → Bool
   unusedAt d = unusedZeroFrom (rackOf (disks - d) k l) (drop (d * k) films) (drop (d * k) viewers) (drop d counts)
 
+  -- Both tests from disk d on.
   abbrev pub formedAt : ℕ → Bool
   formedAt d = disksFormed (disks - d) k l (drop (d * k) films) (drop (d * k) viewers) (drop d counts)
 
@@ -51,6 +53,7 @@ module _ (disks k l : ℕ) (films viewers counts : List ℕ) where
       ap (λ (n : ℕ). g (rackOf n k l) (drop (0 * k) films) (drop (0 * k) viewers) counts) all
       ∙ ap (λ (n : ℕ). g (rackOf disks k l) (drop n films) (drop n viewers) counts) first
 
+  -- The tests from disk 0 on are those of all disks.
   pub formed-start : formedAt 0 ≡ disksFormed disks k l films viewers counts
   formed-start = from-start (λ ds f v c. unusedZeroFrom ds f v c && disksAccepted k l (copiesFrom ds f v c))
 
@@ -82,22 +85,26 @@ module _ (disks k l : ℕ) (films viewers counts : List ℕ) where
         ap (λ (f : List ℕ). g f (drop k (drop (d * k) viewers))) (next-places k d films)
         ∙ ap (g (drop ((d + 1) * k) films)) (next-places k d viewers)
 
+    -- The copies of disk d, then those from the next disk on.
     pub copies-next : copiesAt d ≡ copiesOn d ∷ copiesAt (d + 1)
     copies-next =
         one-more (λ ds c. copiesFrom ds (drop (d * k) films) (drop (d * k) viewers) c)
         ∙ behind (λ f v. copiesOn d ∷ copiesFrom (rackOf (disks - (d + 1)) k l) f v (drop (d + 1) counts))
 
+    -- The unused places of disk d, then those from the next disk on.
     pub unused-next : unusedAt d ≡ (unusedZero k (getD counts d 0) (drop (d * k) films) (drop (d * k) viewers) && unusedAt (d + 1))
     unused-next =
         one-more (λ ds c. unusedZeroFrom ds (drop (d * k) films) (drop (d * k) viewers) c)
         ∙ behind (λ f v. unusedZero k (getD counts d 0) (drop (d * k) films) (drop (d * k) viewers) && unusedZeroFrom (rackOf (disks - (d + 1)) k l) f v (drop (d + 1) counts))
 
+    -- Both tests of disk d, then those from the next disk on.
     pub formed-next : formedAt d ≡ ((unusedZero k (getD counts d 0) (drop (d * k) films) (drop (d * k) viewers) && diskAccepted k l (copiesOn d)) && formedAt (d + 1))
     formed-next =
         ap (λ (b : Bool). b && disksAccepted k l (copiesAt d)) unused-next
         ∙ ap (λ (cs : List (List Item)). (unusedZero k (getD counts d 0) (drop (d * k) films) (drop (d * k) viewers) && unusedAt (d + 1)) && disksAccepted k l cs) copies-next
         ∙ by-disk (unusedZero k (getD counts d 0) (drop (d * k) films) (drop (d * k) viewers)) (unusedAt (d + 1)) (diskAccepted k l (copiesOn d)) (disksAccepted k l (copiesAt (d + 1)))
       where
+        -- Two conjunctions, taken disk by disk.
         by-disk : (u us x xs : Bool) → ((u && us) && (x && xs)) ≡ ((u && x) && (us && xs))
         by-disk true true x xs = refl
         by-disk true false true xs = refl
@@ -113,5 +120,6 @@ module _ (disks k l : ℕ) (films viewers counts : List ℕ) where
         ∙ ap (test (lent films)) (sym (part-from viewers (d * k)))
         ∙ sym tested)
       where
+        -- Both tests of one disk, of the parts that hold it.
         test : List ℕ → List ℕ → Bool
         test f v = unusedZero k (getD counts d 0) f v && diskAccepted k l (entries (take (getD counts d 0) f) (take (getD counts d 0) v))

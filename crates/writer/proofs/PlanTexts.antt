@@ -29,6 +29,7 @@ runs p =
     ended (rackLine (p .disks) (p .slots) (p .streams))
     ++ (diskLines 1 (p .copies) ++ (ended (leftLine (p .left)) ++ ended (servedLine (servedOf p) (unservedOf p))))
 
+-- The text is its runs.
 pub text-runs : (p : Plan) → runs p ≡ textOf p
 unfolding textOf
 text-runs p =

@@ -39,12 +39,15 @@ by-end c room refusal text =
     (λ stated. refusal 7 (omega arith) (ends-tables c room rack stated)))
     (λ rack. refusal 1 (omega arith) (ends-rack c room rack))
 
+-- The refusal of an answer.
 abbrev refusalOf : WriteNumbers → ℕ
 refusalOf n = n .refusal
 
+-- Its second number.
 abbrev secondOf : WriteNumbers → ℕ
 secondOf n = n .second
 
+-- Its length.
 abbrev lengthOf : WriteNumbers → ℕ
 lengthOf n = n .length
 
@@ -53,33 +56,41 @@ module _ (c : WriteCall) (room exit : List ℕ) (answer : WriteNumbers) (same : 
   refused-by : {n : WriteNumbers} {after : List ℕ} → Ends c room n after → answer .refusal ≡ n .refusal
   refused-by e = ap refusalOf (same ∙ e .answers)
 
+  -- Writing has no second number.
   second-zero : answer .second ≡ 0
   second-zero = by-end c room (λ number h e. ap secondOf (same ∙ e .answers)) (λ formed e. ap secondOf (same ∙ e .answers))
 
+  -- A refusal has no length.
   length-zero : 1 ≤ answer .refusal → answer .length ≡ 0
   length-zero h =
       by-end c room (λ number some e. ap lengthOf (same ∙ e .answers)) (λ formed e. absurd (omega (arith, refused-by e)))
 
+  -- A refusal changes no byte.
   byte-kept : 1 ≤ answer .refusal → exit ≡ room
   byte-kept h = by-end c room (λ number some e. left ∙ e .leaves) (λ formed e. absurd (omega (arith, refused-by e)))
 
   module _ (none : answer .refusal ≡ 0) where
+    -- Without refusal the tables hold a well-formed plan.
     plan-formed : wellFormedCall c ≡ true
     plan-formed = by-end c room (λ number some e. absurd (omega (arith, refused-by e))) (λ formed e. formed)
 
+    -- The answer is the length of the text.
     text-counted : answer .length ≡ length (textHeld c)
     text-counted =
         by-end c room (λ number some e. absurd (omega (arith, refused-by e))) (λ formed e. ap lengthOf (same ∙ e .answers))
 
+    -- The space is the text, then what stood behind it.
     text-stored : exit ≡ textHeld c ++ drop (length (textHeld c)) room
     text-stored = by-end c room (λ number some e. absurd (omega (arith, refused-by e))) (λ formed e. left ∙ e .leaves)
 
+    -- The first bytes are the text.
     text-first : take (answer .length) exit ≡ textHeld c
     text-first =
         ap (λ (n : ℕ). take n exit) text-counted
         ∙ ap (take (length (textHeld c))) text-stored
         ∙ take-append-seam (textHeld c) (drop (length (textHeld c)) room)
 
+    -- The bytes after the text are untouched.
     after-kept : drop (answer .length) exit ≡ drop (answer .length) room
     after-kept =
         ap (λ (n : ℕ). drop n exit) text-counted
@@ -87,6 +98,7 @@ module _ (c : WriteCall) (room exit : List ℕ) (answer : WriteNumbers) (same : 
         ∙ drop-append-seam (textHeld c) (drop (length (textHeld c)) room)
         ∙ sym (ap (λ (n : ℕ). drop n room) text-counted)
 
+  -- The whole promise.
   pub promise : WritePromise c room exit answer
   promise = record {
     numbers = same;

@@ -8,13 +8,16 @@ use Rattle.plan_text.proofs.Choices.{and-left, and-right}
 use Rattle.plan_text.proofs.Limits.{range-most}
 
 module _ (disks slots streams : ℕ) (accepted : rackAccepted disks slots streams ≡ true) where
+  -- N is at most 64.
   pub disks-most : disks ≤ 64
   disks-most = range-most mostDisks disks (and-left (inRange mostDisks disks) _ accepted)
 
+  -- k is at most 32.
   pub slots-most : slots ≤ 32
   slots-most =
       range-most mostSlots slots (and-left (inRange mostSlots slots) _ (and-right (inRange mostDisks disks) _ accepted))
 
+  -- L is at most 65,535.
   pub streams-most : streams ≤ 65535
   streams-most =
       range-most mostLoad streams (and-right (inRange mostSlots slots) _ (and-right (inRange mostDisks disks) _ accepted))

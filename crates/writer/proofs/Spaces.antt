@@ -1,7 +1,7 @@
 -- Bytes stored one run after the other: what is left to store gives the whole.
 use mathlib.Core.Path.{_≡_, refl, sym, ap, subst, _∙_}
 use mathlib.Core.List.{List, [], _∷_, _++_}
-use Prim.Native.Nat.{ℕ, suc, _+_, _≤_, _<_}
+use Prim.Native.Nat.{ℕ, suc, _+_, _≤_}
 use native.Mathlib.Omega.{arith}
 use lib.ListN.{length, drop, set, length-append}
 use lib.Seq.{sets, length-sets, sets-eq}
@@ -21,6 +21,7 @@ pub record Rest (at : ℕ) (all entry : List ℕ) (next : ℕ) (rest space : Lis
   pub held : sets space next rest ≡ sets entry at all
   pub behind : next + length rest ≡ at + length all
 
+-- Before the first store all is left.
 pub rest-start : (at : ℕ) (all entry : List ℕ) → Rest at all entry at all entry
 rest-start at all entry = record { held = refl; behind = refl }
 
@@ -43,10 +44,6 @@ module _ {at : ℕ} {all entry : List ℕ} {next : ℕ} {bytes space after : Lis
   -- The last run completes the whole.
   pub rest-last : Rest at all entry next bytes space → Put next bytes space after beyond → Put at all entry after beyond
   rest-last r p = record { held = p .held ∙ r .held; behind = p .behind ∙ r .behind }
-
--- The next run stands within the whole.
-pub rest-room : {at : ℕ} {all entry : List ℕ} {next : ℕ} {space : List ℕ} (bytes rest : List ℕ) (bound : ℕ) → Rest at all entry next (bytes ++ rest) space → at + length all < bound → next + length bytes < bound
-rest-room bytes rest bound r h = omega (arith, r .behind, length-append bytes rest)
 
 -- Storing keeps the length of the space.
 pub put-length : {at : ℕ} {bytes entry exit : List ℕ} {next : ℕ} → Put at bytes entry exit next → length exit ≡ length entry

@@ -12,6 +12,7 @@ use Rattle.plan_text.specs.Text.{space, closed, lineFeed, pairText, pairsText, 
 use Rattle.writer.specs.Space.{twoText, ended}
 use Rattle.writer.proofs.Lists.{drop-next}
 
+-- Two numbers, a space and a bracket.
 pub two-length : (a b : ℕ) → length (twoText a b) ≡ length (decimal a) + length (decimal b) + 2
 two-length a b =
     omega (
@@ -19,9 +20,6 @@ two-length a b =
       length-append (decimal a) (space ∷ (decimal b ++ (closed ∷ []))),
       length-append (decimal b) (closed ∷ []),
     )
-
-pub ended-length : (line : List ℕ) → length (ended line) ≡ length line + 1
-ended-length line = length-append line _
 
 -- The pairs from i on are the pair at i and the pairs from i + 1 on.
 pub pairs-next : (films amounts : List ℕ) (i : ℕ) → length films ≡ length amounts → i < length films → pairsText (entries (drop i films) (drop i amounts)) ≡ (space ∷ pairText (item (getD films i 0) (getD amounts i 0))) ++ pairsText (entries (drop (i + 1) films) (drop (i + 1) amounts))
@@ -34,16 +32,17 @@ pub pairs-end : (films amounts : List ℕ) (i : ℕ) → length films ≤ i → 
 pairs-end films amounts i h =
     ap (λ (l : List ℕ). pairsText (entries l (drop i amounts))) (drop-of-length-le films h)
 
+-- The lengths of both.
 pub pairs-next-length : (films amounts : List ℕ) (i : ℕ) → length films ≡ length amounts → i < length films → length (pairsText (entries (drop i films) (drop i amounts))) ≡ length (space ∷ pairText (item (getD films i 0) (getD amounts i 0))) + length (pairsText (entries (drop (i + 1) films) (drop (i + 1) amounts)))
 pairs-next-length films amounts i e h =
     ap length (pairs-next films amounts i e h)
     ∙ length-append (space ∷ pairText (item (getD films i 0) (getD amounts i 0))) _
 
--- ---- each line as its runs, and its length
-
+-- The rack line is five runs.
 pub rack-runs : (d k l : ℕ) → ascii "(rack " ++ (decimal d ++ ((space ∷ []) ++ (twoText k l ++ (lineFeed ∷ [])))) ≡ ended (rackLine d k l)
 rack-runs d k l = simp append-assoc
 
+-- The length of the rack line.
 pub rack-length : (d k l : ℕ) → length (ended (rackLine d k l)) ≡ 8 + length (decimal d) + length (twoText k l)
 rack-length d k l =
     omega (
@@ -53,9 +52,11 @@ rack-length d k l =
       length-append (twoText k l) (lineFeed ∷ []),
     )
 
+-- A disk's line is four runs.
 pub disk-runs : (n : ℕ) (copies : List Item) → ascii "(disk " ++ (decimal n ++ (pairsText copies ++ (lineFeed ∷ []))) ≡ ended (diskLine n copies)
 disk-runs n copies = simp append-assoc
 
+-- The length of a disk's line.
 pub disk-length : (n : ℕ) (copies : List Item) → length (ended (diskLine n copies)) ≡ 7 + length (decimal n) + length (pairsText copies)
 disk-length n copies =
     omega (
@@ -65,14 +66,18 @@ disk-length n copies =
       length-append (pairsText copies) (lineFeed ∷ []),
     )
 
+-- The left line is three runs.
 pub left-runs : (left : List Item) → ascii "(left" ++ (pairsText left ++ (lineFeed ∷ [])) ≡ ended (leftLine left)
 left-runs left = refl
 
+-- The length of the left line.
 pub left-length : (left : List Item) → length (ended (leftLine left)) ≡ 6 + length (pairsText left)
 left-length left = omega (arith, length-append (pairsText left) (lineFeed ∷ []))
 
+-- The served line is three runs.
 pub served-runs : (s u : ℕ) → ascii "(served " ++ (twoText s u ++ (lineFeed ∷ [])) ≡ ended (servedLine s u)
 served-runs s u = refl
 
+-- The length of the served line.
 pub served-length : (s u : ℕ) → length (ended (servedLine s u)) ≡ 9 + length (twoText s u)
 served-length s u = omega (arith, length-append (twoText s u) (lineFeed ∷ []))

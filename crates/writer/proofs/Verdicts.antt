@@ -23,41 +23,50 @@ unfolding writing spaceAfter
 ends c room v e = record { answers = ap (writeAnswer c) e; leaves = ap (spaceGiven c room) e }
 
 module _ (c : WriteCall) (room : List ℕ) where
-  behind-rack : RackHolds c → writeVerdict c room ≡ ifHolds (roomStated c) 7 (λ u₂. ifHolds (wellFormedCall c) 10 (λ u₃. ifHolds (leb (length (textHeld c)) (length room)) 11 (λ u₄. planned)))
-  behind-rack rack =
-      ap (λ (b : Bool). ifHolds b 1 (λ u₁. ifHolds (roomStated c) 7 (λ u₂. ifHolds (wellFormedCall c) 10 (λ u₃. ifHolds (leb (length (textHeld c)) (length room)) 11 (λ u₄. planned))))) rack
+  -- The verdict by whether the space is long enough.
+  abbrev bySpace : Bool → Verdict
+  bySpace b = ifHolds b 11 (λ u. planned)
 
-  behind-room : RackHolds c → roomStated c ≡ true → writeVerdict c room ≡ ifHolds (wellFormedCall c) 10 (λ u₃. ifHolds (leb (length (textHeld c)) (length room)) 11 (λ u₄. planned))
-  behind-room rack stated =
-      behind-rack rack
-      ∙ ap (λ (b : Bool). ifHolds b 7 (λ u₂. ifHolds (wellFormedCall c) 10 (λ u₃. ifHolds (leb (length (textHeld c)) (length room)) 11 (λ u₄. planned)))) stated
+  -- The verdict by whether the plan is well formed.
+  abbrev byPlan : Bool → Verdict
+  byPlan b = ifHolds b 10 (λ u. bySpace (leb (length (textHeld c)) (length room)))
 
-  behind-plan : RackHolds c → roomStated c ≡ true → wellFormedCall c ≡ true → writeVerdict c room ≡ ifHolds (leb (length (textHeld c)) (length room)) 11 (λ u₄. planned)
-  behind-plan rack stated formed =
-      behind-room rack stated
-      ∙ ap (λ (b : Bool). ifHolds b 10 (λ u₃. ifHolds (leb (length (textHeld c)) (length room)) 11 (λ u₄. planned))) formed
+  -- The verdict by whether the tables are long enough.
+  abbrev byTables : Bool → Verdict
+  byTables b = ifHolds b 7 (λ u. byPlan (wellFormedCall c))
 
+  -- The verdict by whether the rack is accepted.
+  abbrev byRack : Bool → Verdict
+  byRack b = ifHolds b 1 (λ u. byTables (roomStated c))
+
+  -- The verdict behind each test that holds.
+  behind-rack : RackHolds c → writeVerdict c room ≡ byTables (roomStated c)
+  behind-rack rack = ap byRack rack
+
+  behind-tables : RackHolds c → roomStated c ≡ true → writeVerdict c room ≡ byPlan (wellFormedCall c)
+  behind-tables rack stated = behind-rack rack ∙ ap byTables stated
+
+  behind-plan : RackHolds c → roomStated c ≡ true → wellFormedCall c ≡ true → writeVerdict c room ≡ bySpace (leb (length (textHeld c)) (length room))
+  behind-plan rack stated formed = behind-tables rack stated ∙ ap byPlan formed
+
+  -- Refusal 1.
   pub ends-rack : RackRefused c → Ends c room (refusedWith 1) room
-  ends-rack rack =
-      ends c room (refused 1 0)
-      (ap (λ (b : Bool). ifHolds b 1 (λ u₁. ifHolds (roomStated c) 7 (λ u₂. ifHolds (wellFormedCall c) 10 (λ u₃. ifHolds (leb (length (textHeld c)) (length room)) 11 (λ u₄. planned))))) rack)
+  ends-rack rack = ends c room (refused 1 0) (ap byRack rack)
 
+  -- Refusal 7.
   pub ends-tables : RackHolds c → roomStated c ≡ false → Ends c room (refusedWith 7) room
-  ends-tables rack stated =
-      ends c room (refused 7 0)
-      (behind-rack rack ∙ ap (λ (b : Bool). ifHolds b 7 (λ u₂. ifHolds (wellFormedCall c) 10 (λ u₃. ifHolds (leb (length (textHeld c)) (length room)) 11 (λ u₄. planned)))) stated)
+  ends-tables rack stated = ends c room (refused 7 0) (behind-rack rack ∙ ap byTables stated)
 
+  -- Refusal 10.
   pub ends-plan : RackHolds c → roomStated c ≡ true → wellFormedCall c ≡ false → Ends c room (refusedWith 10) room
-  ends-plan rack stated formed =
-      ends c room (refused 10 0)
-      (behind-room rack stated ∙ ap (λ (b : Bool). ifHolds b 10 (λ u₃. ifHolds (leb (length (textHeld c)) (length room)) 11 (λ u₄. planned))) formed)
+  ends-plan rack stated formed = ends c room (refused 10 0) (behind-tables rack stated ∙ ap byPlan formed)
 
+  -- Refusal 11.
   pub ends-space : RackHolds c → roomStated c ≡ true → wellFormedCall c ≡ true → length room < length (textHeld c) → Ends c room (refusedWith 11) room
   ends-space rack stated formed short =
-      ends c room (refused 11 0)
-      (behind-plan rack stated formed ∙ ap (λ (b : Bool). ifHolds b 11 (λ u₄. planned)) (lt-leb _ _ short))
+      ends c room (refused 11 0) (behind-plan rack stated formed ∙ ap bySpace (lt-leb _ _ short))
 
+  -- The text is written.
   pub ends-written : RackHolds c → roomStated c ≡ true → wellFormedCall c ≡ true → length (textHeld c) ≤ length room → Ends c room (record { refusal = 0; second = 0; length = length (textHeld c) }) (written (textHeld c) room)
   ends-written rack stated formed fits =
-      ends c room planned
-      (behind-plan rack stated formed ∙ ap (λ (b : Bool). ifHolds b 11 (λ u₄. planned)) (le-leb _ _ fits))
+      ends c room planned (behind-plan rack stated formed ∙ ap bySpace (le-leb _ _ fits))

@@ -44,7 +44,9 @@ mul-places c =
     omega (arith, places-most (rack .disks) (rack .slots .0) (rack .streams .0) (formed-rack (called (c .before .before .before .before .before .before .before .before)) (c .before .before .before .before .before .before .before .before .pre .formed)))
 
 slice-aggregate-total : tie.Need-slice-aggregate-total
-slice-aggregate-total c = sym (length-take-le _ _ (room-copies (called (c .before .before .before .before .before .before .before .before .before)) (c .before .before .before .before .before .before .before .before .before .pre .room) .viewerPlaces))
+slice-aggregate-total c =
+    let room = room-copies (called (c .before .before .before .before .before .before .before .before .before)) (c .before .before .before .before .before .before .before .before .before .pre .room) in
+    sym (length-take-le _ _ (omega (arith, room .filmPlaces, room .viewerPlaces)))
 
 total-requires : tie.Need-total-requires
 total-requires c κs = search needs
