@@ -69,7 +69,7 @@ module _ (over : ℕ) where
   lessLast-last (x ∷ y ∷ ys) (suc i) h = lessLast-last (y ∷ ys) i (omega arith)
 
   -- The sum loses what the last item loses.
-  pub lessLast-total :
+  lessLast-total :
       (xs : List Item) (i : ℕ) → suc i ≡ length xs
       → total (lessLast over xs) + getD (map amountOf xs) i 0 ≡ total xs + (getD (map amountOf xs) i 0 - over)
   lessLast-total [] i h = absurd (omega arith)

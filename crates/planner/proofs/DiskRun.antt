@@ -19,7 +19,7 @@ use Rattle.planner.proofs.Copies.{run-length, lessLast-length, lessLast
 use Rattle.planner.proofs.Stored.{stored-less, over-last}
 
 -- The films of a window are those of its run of keys.
-pub within-run :
+within-run :
     (keys : List ℕ) (n start size : ℕ) → start + size ≤ n → within (window start size) (itemsOf keys n) ≡ runOf keys start size
 within-run keys n start size h =
     ap (take size) (drop-map itemOf start (take n keys))

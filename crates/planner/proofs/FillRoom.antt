@@ -17,6 +17,7 @@ pub record Room (films₀ viewers₀ counts₀ : List ℕ) (disks k : ℕ) (film
   pub counts-length : length counts ≡ length counts₀
   pub small : sum ≤ filled * 65535
 
+-- The room follows from what is filled.
 pub room :
     {films₀ viewers₀ counts₀ : List ℕ} {list : List Item} {disks k l : ℕ} {films viewers counts keys : List ℕ} {filled left sum : ℕ}
     → disks * k ≤ length films₀ → disks * k ≤ length viewers₀ → disks ≤ length counts₀ → 1 ≤ k → 1 ≤ l → l ≤ 65535 → filled ≤ disks

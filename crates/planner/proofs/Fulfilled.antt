@@ -53,7 +53,7 @@ module _ (c : Call) (t : Tables) (e : verdict c t ≡ planned) where
       lefts = leb-true (recordCount c) (leftPlaces t) (behind .1)
 
 -- Tables with the same five lists are the same.
-pub tables-same :
+tables-same :
     {f f' v v' c c' lf lf' la la' : List ℕ} → f ≡ f' → v ≡ v' → c ≡ c' → lf ≡ lf' → la ≡ la'
     → tables f v c lf la ≡ tables f' v' c' lf' la'
 tables-same {f} {f'} {v} {v'} {c} {c'} {lf} {lf'} {la} {la'} p q r s u =

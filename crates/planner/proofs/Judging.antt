@@ -36,7 +36,7 @@ verdictFrom-end bytes i h =
 
 module _ (bytes : List ℕ) (i : ℕ) (here : i < length bytes / 8) where
   -- The tests of record i, then those of the records behind it.
-  pub verdictFrom-step :
+  verdictFrom-step :
       verdictFrom bytes i ≡ judgeRecord (earlier bytes i) (suc i) (recordAt bytes i) (verdictFrom bytes (suc i))
   verdictFrom-step = ap (λ (n : ℕ). judgeRecords (earlier bytes i) (suc i) (recordsFrom bytes i n)) more
     where

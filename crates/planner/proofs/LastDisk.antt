@@ -21,7 +21,7 @@ rack-end n k l = sym (replicate-append-replicate n 1 (disk k l))
 
 module _ (d : Disk) where
   -- It is filled from what the disks before have left.
-  pub placement-end :
+  placement-end :
       (ds : List Disk) (list : List Item)
       → placement (ds ++ (d ∷ [])) list ≡ placement ds list ++ (copiesOf d (remaining ds list) ∷ [])
   placement-end [] list = refl
@@ -60,7 +60,7 @@ module _ (d : Disk) where
       ∙ map-append length (placement ds list) (copiesOf d (remaining ds list) ∷ [])
 
 -- A disk has at most as many copies as slots.
-pub copies-few : (d : Disk) (list : List Item) → 1 ≤ d .load → length (copiesOf d list) ≤ d .slots
+copies-few : (d : Disk) (list : List Item) → 1 ≤ d .load → length (copiesOf d list) ≤ d .slots
 copies-few d list some =
     omega (
       arith,

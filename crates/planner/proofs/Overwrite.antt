@@ -13,7 +13,7 @@ abbrev pub overwritten : List ℕ → List ℕ → ℕ → List ℕ
 overwritten new old i = take i new ++ drop i old
 
 -- One entry more.
-pub overwritten-more :
+overwritten-more :
     (new old : List ℕ) (i : ℕ) → i < length new → i < length old
     → set (overwritten new old i) i (getD new i 0) ≡ overwritten new old (suc i)
 overwritten-more [] old i h k = absurd (omega arith)
@@ -23,13 +23,13 @@ overwritten-more (x ∷ new) (y ∷ old) (suc i) h k =
     ap (λ (r : List ℕ). x ∷ r) (overwritten-more new old i (omega arith) (omega arith))
 
 -- It keeps its length.
-pub overwritten-length :
+overwritten-length :
     (new old : List ℕ) (i : ℕ) → i ≤ length new → i ≤ length old → length (overwritten new old i) ≡ length old
 overwritten-length new old i h k =
     omega (arith, length-append (take i new) (drop i old), length-take i new, length-drop i old)
 
 -- All entries are written.
-pub overwritten-all : (new old : List ℕ) (n : ℕ) → length new ≡ n → overwritten new old n ≡ written new old
+overwritten-all : (new old : List ℕ) (n : ℕ) → length new ≡ n → overwritten new old n ≡ written new old
 overwritten-all new old n e =
     ap (λ (m : ℕ). overwritten new old m) (sym e) ∙ ap (λ (r : List ℕ). r ++ drop (length new) old) (take-length new)
 
@@ -39,7 +39,7 @@ padded-length n xs h =
     omega (arith, length-append xs (replicate (n - length xs) 0), length-replicate {A = ℕ} (n - length xs) 0)
 
 -- and the list's entries with zeros behind.
-pub padded-at : (n : ℕ) (xs : List ℕ) (i : ℕ) → getD (padded n xs) i 0 ≡ getD xs i 0
+padded-at : (n : ℕ) (xs : List ℕ) (i : ℕ) → getD (padded n xs) i 0 ≡ getD xs i 0
 padded-at n xs i = zeros xs (n - length xs) i
   where
     no-entry : (m i : ℕ) → _≡_ {A = ℕ} (getD (replicate m 0) i 0) 0

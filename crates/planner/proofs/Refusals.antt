@@ -108,7 +108,7 @@ module _ (disks slots records films viewers counts leftFilms leftAmounts : ℕ) 
         joined copiesTest (leb disks counts) leftTest true false leftTest (le-leb (disks * slots) (min films viewers) copies) (lt-leb disks counts h) refl
 
     -- With enough count places, the left table decides.
-    pub left-decides : disks ≤ counts → roomHere ≡ leb records (min leftFilms leftAmounts)
+    left-decides : disks ≤ counts → roomHere ≡ leb records (min leftFilms leftAmounts)
     left-decides h =
         joined copiesTest (leb disks counts) leftTest true true leftTest (le-leb (disks * slots) (min films viewers) copies) (le-leb disks counts h) refl
 

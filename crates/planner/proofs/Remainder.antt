@@ -1,7 +1,7 @@
 -- What remains of a window's last film, as a key.
-use mathlib.Core.Path.{_≡_, sym, ap, ap₂, _∙_}
+use mathlib.Core.Path.{_≡_, sym, ap, _∙_}
 use mathlib.Core.List.{List}
-use Prim.Native.Nat.{ℕ, zero, suc, _+_, _-_, _*_, _/_, _%_, _≤_, _<_}
+use Prim.Native.Nat.{ℕ, zero, suc, _+_, _-_, _*_, _/_, _%_, _≤_}
 use native.Mathlib.Omega.{arith}
 use lib.ListN.{length, getD}
 use Rattle.placement.specs.Items.{Item, item}
@@ -9,6 +9,7 @@ use Rattle.placement.specs.Disk.{lastFilm}
 use Rattle.planner.specs.Keys.{itemOf}
 use Rattle.planner.specs.Copies.{runOf}
 use Rattle.planner.proofs.Copies.{run-length, run-at}
+use Rattle.planner.proofs.Places.{itemOf-key}
 
 -- A window whose last film has something has a film.
 pub last-some : (keys : List ℕ) (start size over : ℕ) → 1 ≤ over → over ≤ lastFilm (runOf keys start size) .amount → 1 ≤ size
@@ -23,20 +24,13 @@ last-is keys start size inside some =
     ap (λ (m : ℕ). getD (runOf keys start size) (m - 1) (item 0 0)) (run-length keys start size inside)
     ∙ run-at keys start size inside (size - 1) (omega arith)
 
--- The key of a film and an amount.
-key-film : (amount film : ℕ) → film < 65536 → (amount * 65536 + film) % 65536 ≡ film
-key-film amount film h = omega arith
-
-key-amount : (amount film : ℕ) → film < 65536 → (amount * 65536 + film) / 65536 ≡ amount
-key-amount amount film h = omega arith
-
 -- The key that enters is that of the remainder.
 pub remainder-key :
     (keys : List ℕ) (start size over film : ℕ) → start + size ≤ length keys → 1 ≤ size
     → film ≡ getD keys (start + (size - 1)) 0 % 65536
     → itemOf (over * 65536 + film) ≡ item (lastFilm (runOf keys start size) .film) over
 remainder-key keys start size over film inside some e =
-    ap₂ (λ (f a : ℕ). item f a) (key-film over film (omega arith)) (key-amount over film (omega arith))
+    itemOf-key film over (omega arith)
     ∙ ap (λ (f : ℕ). item f over) (e ∙ ap (λ (x : Item). x .film) (sym (last-is keys start size inside some)))
 
 -- It fits.

@@ -11,12 +11,12 @@ use Rattle.planner.specs.Keys.{itemsOf}
 use Rattle.planner.proofs.Places.{length-itemsOf, getD-itemsOf}
 
 -- A prefix with one item more sums to that item's amount more.
-pub total-more : (list : List Item) (i : ℕ) → i < length list → total (take (suc i) list) ≡ total (take i list) + getD list i (item 0 0) .amount
+total-more : (list : List Item) (i : ℕ) → i < length list → total (take (suc i) list) ≡ total (take i list) + getD list i (item 0 0) .amount
 total-more list i h =
     ap total (take-suc list i (item 0 0) h) ∙ sumBy-append amountOf (take i list) (getD list i (item 0 0) ∷ []) ∙ omega arith
 
 -- A run of k items that moves by one loses its first item and gains the next.
-pub total-moves :
+total-moves :
     (list : List Item) (k s : ℕ) → s + k < length list
     → getD list s (item 0 0) .amount + total (take k (drop (suc s) list)) ≡ total (take k (drop s list)) + getD list (s + k) (item 0 0) .amount
 total-moves list k s h =
@@ -25,7 +25,7 @@ total-moves list k s h =
     ∙ ap (λ (x : Item). total (take k (drop s list)) + x .amount) (getD-drop s list k (item 0 0))
 
 -- A run sums to its first item's amount at least.
-pub total-first : (list : List Item) (k s : ℕ) → 1 ≤ k → s < length list → getD list s (item 0 0) .amount ≤ total (take k (drop s list))
+total-first : (list : List Item) (k s : ℕ) → 1 ≤ k → s < length list → getD list s (item 0 0) .amount ≤ total (take k (drop s list))
 total-first list zero s some h = absurd (omega arith)
 total-first list (suc k) s some h = omega (arith, ap (λ (r : List Item). total (take (suc k) r)) (drop-cons list s (item 0 0) h))
 

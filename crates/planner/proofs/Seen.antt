@@ -26,7 +26,7 @@ marks-none (suc n) zero = refl
 marks-none (suc n) (suc f) = marks-none n f
 
 -- With the film of one more record set, the table marks it too.
-pub marks-more :
+marks-more :
     (seen : List Bool) (records : List Item) (x : Item) → Marks seen records → x .film < length seen
     → Marks (set seen (x .film) true) (x ∷ records)
 marks-more seen records x marks room f =

@@ -14,7 +14,7 @@ written-length new old h =
     omega (arith, length-append new (drop (length new) old), length-drop (length new) old)
 
 -- More behind what is written.
-pub written-more : (new more old : List ℕ) → new ++ written more (drop (length new) old) ≡ written (new ++ more) old
+written-more : (new more old : List ℕ) → new ++ written more (drop (length new) old) ≡ written (new ++ more) old
 written-more new more old =
     ap (λ (r : List ℕ). new ++ (more ++ r)) (drop-drop (length more) (length new) old)
     ∙ sym (append-assoc new more (drop (length new + length more) old))

@@ -22,7 +22,7 @@ ghost use Rattle.placement.specs.PlanPromise.{PlanPromise};
 ghost use Rattle.planner.specs.Answers.{numbersOf};
 ghost use Rattle.planner.specs.Verdicts.{callOf};
 
-// What planning answers: a plan's numbers, or a refusal.
+// What planning answers: a plan's numbers, or a refusal. specs/Answers.antt gives document 01's number and values for each case.
 pub enum Answer {
     Planned {
         served: u64,

@@ -1,7 +1,7 @@
 -- `planner::fill::take_window` meets its contract: the key that enters is that of the window's last film with what remains of it.
 use mathlib.Core.Path.{sym, ap₂, _∙_}
 use mathlib.Core.List.{List}
-use Prim.Native.Nat.{_+_, _-_, _≤_}
+use Prim.Native.Nat.{_+_, _-_, _*_, _≤_, _<_}
 use native.Mathlib.Omega.{arith}
 use borrow.Author.Needs.{needs}
 use Rattle.placement.specs.Items.{Item, item, enter, insertBy, before}
@@ -61,30 +61,25 @@ remove-requires-2 c κs = search needs
 sub-enter : tie.Need-sub-enter
 sub-enter c = search needs
 
-mul-enter : tie.Need-mul-enter
-mul-enter c =
-    let at-film = c .before .before .before .before .before in
-    let at-start = at-film .before .before .before .before in
+-- The key that enters is at most the last one taken out, and fits as that does.
+key-fits : (c : tie.After-film) → c .before .before .before .before .args .over * 65536 + c .film .result < 18446744073709551616
+key-fits c =
+    let a = c .before .before .before .before .args in
     omega (
       arith,
-      remainder-fits (at-start .args .keys .now) (at-start .args .start) (at-start .args .size) (at-start .args .over) (at-film .film .result) (omega arith)
-          (at-film .before .before .if1 .left) (at-start .pre .1) (at-film .film .ensures),
-      at-film .before .slice-known3 .given (at-start .args .start + (at-start .args .size - 1)),
+      remainder-fits (a .keys .now) (a .start) (a .size) (a .over) (c .film .result) (omega arith) (c .before .before .if1 .left)
+          (c .before .before .before .before .pre .1) (c .film .ensures),
+      c .before .slice-known3 .given (a .start + (a .size - 1)),
     )
+
+mul-enter : tie.Need-mul-enter
+mul-enter c = omega (arith, key-fits (c .before .before .before .before .before))
 
 cast-enter : tie.Need-cast-enter
 cast-enter c = search needs
 
 add-enter : tie.Need-add-enter
-add-enter c =
-    let at-film = c .before .before .before .before .before in
-    let at-start = at-film .before .before .before .before in
-    omega (
-      arith,
-      remainder-fits (at-start .args .keys .now) (at-start .args .start) (at-start .args .size) (at-start .args .over) (at-film .film .result) (omega arith)
-          (at-film .before .before .if1 .left) (at-start .pre .1) (at-film .film .ensures),
-      at-film .before .slice-known3 .given (at-start .args .start + (at-start .args .size - 1)),
-    )
+add-enter c = omega (arith, key-fits (c .before .before .before .before .before))
 
 enter-requires : tie.Need-enter-requires
 enter-requires c κs =
