@@ -2,10 +2,14 @@
 //! cases of document 01. Without the feature `library` only the Rust modules are tested.
 
 mod cases;
+mod damage;
 mod dice;
 mod edges;
 mod guarded;
 mod lists;
 mod planning;
+mod plans;
+mod reading;
 mod subjects;
 mod tally;
+mod writing;
