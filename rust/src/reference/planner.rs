@@ -38,7 +38,7 @@ pub fn plan(rack: Rack, list: &[u8], mut tables: Tables<&mut [u32]>) -> Planned 
 fn judge(rack: Rack, list: &[u8], tables: &Tables<&mut [u32]>) -> Result<Vec<Pair>, Refusal> {
     let count = list.len() / RECORD;
     Refusal::unless(rack.in_range(), 1)?;
-    Refusal::unless(list.len() % RECORD == 0, 2)?;
+    Refusal::unless(list.len().is_multiple_of(RECORD), 2)?;
     Refusal::unless(count <= MOST_RECORDS, 3)?;
     Refusal::unless(tables.hold(rack, count), 7)?;
     let mut demands = Vec::new();

@@ -23,14 +23,6 @@ impl<T> Guarded<T> {
         let end = self.0.len() - GUARD;
         self.0.drain(end.min(GUARD + len)..end);
     }
-
-    /// Asserts that nothing changed from this place on.
-    pub fn assert_same_from(&self, before: &Self, from: usize)
-    where
-        T: PartialEq + std::fmt::Debug,
-    {
-        assert_eq!(self.as_ref()[from..], before.as_ref()[from..]);
-    }
 }
 
 impl<T> AsRef<[T]> for Guarded<T> {
@@ -71,6 +63,21 @@ impl Need {
             counts: column(2),
             left_films: column(3),
             left_amounts: column(4),
+        }
+    }
+
+    /// Asserts that no place beyond the needed ones changed.
+    pub fn assert_rest_same(self, before: &GuardedTables, after: &GuardedTables) {
+        let (before, after) = (before.view(), after.view());
+        let columns = [
+            (before.films, after.films),
+            (before.viewers, after.viewers),
+            (before.counts, after.counts),
+            (before.left_films, after.left_films),
+            (before.left_amounts, after.left_amounts),
+        ];
+        for ((before, after), from) in columns.into_iter().zip(self.0) {
+            assert_eq!(before[from..], after[from..]);
         }
     }
 

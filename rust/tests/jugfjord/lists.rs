@@ -122,29 +122,29 @@ pub fn good(dice: &mut Dice, kind: Demands) -> (Case, Need) {
 type Fault = fn(&mut Dice, &mut Case, Need);
 
 pub const FAULTS: [(&str, Fault); 7] = [
-    ("rack", |dice, case, _| {
+    ("rack out of range", |dice, case, _| {
         case.rack = bad_rack(dice, case.rack)
     }),
-    ("ragged", |dice, case, _| {
+    ("part of a record", |dice, case, _| {
         let len = case.list.len() + dice.below(7) + 1;
         case.list.resize(len, 1);
     }),
-    ("many", |dice, case, _| {
+    ("too many records", |dice, case, _| {
         let len = (MOST_RECORDS + 1 + dice.below(3)) * RECORD;
         case.list.resize(len, 1);
     }),
-    ("short", |dice, case, need| {
+    ("table too short", |dice, case, need| {
         need.miss(dice, &mut case.tables);
     }),
-    ("film", |dice, case, _| {
+    ("film out of range", |dice, case, _| {
         let wrong = dice.pick(&[0, LAST_FILM + 1, LAST_FILM + 6, 1 << 31, u32::MAX]);
         change(dice, case, 0, wrong);
     }),
-    ("demand", |dice, case, _| {
+    ("demand out of range", |dice, case, _| {
         let wrong = dice.pick(&[MOST_DEMAND + 1, 1 << 20, 1 << 31, u32::MAX]);
         change(dice, case, 4, wrong);
     }),
-    ("repeated", |dice, case, _| {
+    ("film repeated", |dice, case, _| {
         if case.list.len() >= 2 * RECORD {
             let from = dice.below(case.list.len() / RECORD) * RECORD;
             let film = case.list[from..from + 4].try_into().expect("four bytes");

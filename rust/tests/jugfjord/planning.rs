@@ -4,7 +4,7 @@ use jugfjord::ffi::Planned;
 use jugfjord::rack::RECORD;
 
 use crate::dice::Dice;
-use crate::guarded::GuardedTables;
+use crate::guarded::{GuardedTables, Need};
 use crate::lists::{good, Case, FAULTS, KINDS};
 use crate::subjects::PLANNERS;
 use crate::tally::Tally;
@@ -21,7 +21,7 @@ fn planners_agree_on_random_lists() {
         tally.answer(planned.number);
         tally_shape(&case, &planned, &mut tally);
     }
-    tally.close(&[
+    let mut least = vec![
         ("accepted", LISTS / 2),
         ("refused 1", 2_000),
         ("refused 2", 2_000),
@@ -36,7 +36,10 @@ fn planners_agree_on_random_lists() {
         ("largest rack", 500),
         ("1,024 records", 500),
         ("no record", 500),
-    ]);
+    ];
+    least.extend(KINDS.map(|(name, _)| (name, 20_000)));
+    least.extend(FAULTS.map(|(name, _)| (name, 5_000)));
+    tally.close(&least);
 }
 
 /// A list of some kind. A third have a fault, and some of these have two.
@@ -48,7 +51,7 @@ fn random_case(dice: &mut Dice, tally: &mut Tally) -> Case {
         for _ in 0..dice.pick(&[1, 1, 1, 2]) {
             let (name, fault) = dice.pick(&FAULTS);
             fault(dice, &mut case, need);
-            tally.count(format!("fault: {name}"));
+            tally.count(name);
         }
     }
     case
@@ -82,15 +85,7 @@ fn check_rules(case: &Case, planned: &Planned, after: &GuardedTables) {
     }
     let places = case.rack.places();
     let count = case.list.len() / RECORD;
-    after.films.assert_same_from(&case.tables.films, places);
-    after.viewers.assert_same_from(&case.tables.viewers, places);
-    let disks = case.rack.disks as usize;
-    after.counts.assert_same_from(&case.tables.counts, disks);
-    let before = &case.tables;
-    after.left_films.assert_same_from(&before.left_films, count);
-    after
-        .left_amounts
-        .assert_same_from(&before.left_amounts, count);
+    Need::new(case.rack, count).assert_rest_same(&case.tables, after);
     let view = after.view();
     assert_eq!(planned.served, sum(&view.viewers[..places]));
     assert_eq!(planned.unserved, sum(&view.left_amounts[..count]));

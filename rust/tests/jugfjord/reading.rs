@@ -3,6 +3,7 @@
 use jugfjord::ffi::ReadPlan;
 use jugfjord::rack::{Rack, Slots, Streams};
 use jugfjord::reference::plan::Plan;
+use jugfjord::reference::reader::plan_of;
 use jugfjord::reference::writer::text_of;
 
 use crate::damage::{fill_up, DAMAGES, LENGTHS};
@@ -35,7 +36,7 @@ fn readers_agree_on_valid_and_damaged_texts() {
             _ => assert_eq!(after, case.tables),
         }
     }
-    tally.close(&[
+    let mut least = vec![
         ("accepted", 40_000),
         ("refused 7", 5_000),
         ("refused 8", 300),
@@ -47,7 +48,11 @@ fn readers_agree_on_valid_and_damaged_texts() {
         ("line behind", 5_000),
         ("65,536 bytes", 100),
         ("65,537 bytes", 100),
-    ]);
+    ];
+    least.extend(DAMAGES.map(|(name, _)| (name, 5_000)));
+    least.extend(WRONG.map(|(name, _)| (name, 50)));
+    least.extend(WRONG_SHAPE.map(|(name, _)| (name, 1_000)));
+    tally.close(&least);
 }
 
 /// A text: undamaged, of a wrong plan, with a damage, or filled up to a length.
@@ -82,7 +87,8 @@ fn wrong_text(dice: &mut Dice, mut plan: Plan, tally: &mut Tally) -> Vec<u8> {
     let all = [WRONG.as_slice(), WRONG_SHAPE.as_slice()].concat();
     let (name, wrong) = dice.pick(&all);
     if wrong(dice, &mut plan).is_some() {
-        tally.count(format!("plan: {name}"));
+        tally.count(name);
+        assert!(plan_of(text_of(&plan).as_bytes()).is_err(), "{name}");
     }
     text_of(&plan).into_bytes()
 }
@@ -91,7 +97,7 @@ fn damaged_text(dice: &mut Dice, plan: &Plan, tally: &mut Tally) -> Vec<u8> {
     let mut text = text_of(plan).into_bytes();
     let (name, damage) = dice.pick(&DAMAGES);
     damage(dice, &mut text);
-    tally.count(format!("text: {name}"));
+    tally.count(name);
     text
 }
 
@@ -109,9 +115,11 @@ fn compare(case: &Case) -> (ReadPlan, GuardedTables) {
     (answer, expected)
 }
 
-/// Asserts that each writer makes the text again from what was read.
+/// Asserts that the rest of the tables is untouched, and that each writer makes the text again
+/// from what was read.
 fn write_back(case: &Case, read: &ReadPlan, after: &GuardedTables) {
     let rack = Rack::new(read.disks, Slots(read.slots), Streams(read.streams));
+    Need::new(rack, read.left as usize).assert_rest_same(&case.tables, after);
     for (name, writer) in WRITERS {
         let mut text = vec![0; case.text.len()];
         let written = writer(rack, after.view(), read.left, &mut text);

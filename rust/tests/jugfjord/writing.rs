@@ -161,7 +161,8 @@ fn compare(case: &Case) -> Written {
     if answer.number != 0 {
         assert_eq!(expected, case.space);
     }
-    expected.assert_same_from(&case.space, answer.length as usize);
+    let after = answer.length as usize;
+    assert_eq!(expected.as_ref()[after..], case.space.as_ref()[after..]);
     for (name, writer) in &WRITERS[1..] {
         let mut space = case.space.clone();
         let written = writer(case.rack, view(), case.left, space.as_mut());
