@@ -84,3 +84,21 @@ pub fn text(plan: &Plan) -> Vec<u8> {
     assert_eq!(text.len(), 43_885);
     text
 }
+
+#[cfg(test)]
+mod tests {
+    use super::trial_list;
+
+    #[test]
+    fn trial_lists_are_as_described() {
+        let list = trial_list(512, 32_000, 1);
+        let sum: u32 = list.iter().map(|(_, demand)| demand).sum();
+        let mut films: Vec<u32> = list.iter().map(|(film, _)| *film).collect();
+        films.sort_unstable();
+        assert!(films.into_iter().eq(1..=512));
+        // Worked out apart from this program.
+        assert_eq!(sum, 31_745);
+        assert_eq!(list[..2], [(330, 4_694), (493, 2_347)]);
+        assert_eq!(list[510..], [(263, 9), (34, 9)]);
+    }
+}
