@@ -1,2 +1,3 @@
 // The C library: numbers and slices in, structs of numbers out. A slice is a pointer and then a count.
 mod planning;
+mod writing;

@@ -1,0 +1,83 @@
+/* Jugfjord: plans for film racks, and their texts.
+ *
+ * Every function may be called with any numbers, any list and any text. It gives a plan or one of the refusals
+ * that docs/FORMAT.md lists: `number` is 0 for success, else the refusal, with `second` where the refusal has a second
+ * number and zero for the rest. A refusal changes no byte and no entry of what the caller lent.
+ *
+ * What a caller must keep:
+ * - a pointer is valid for its count: that many bytes or numbers can be read there, and written where it is not const;
+ * - a pointer with count 0 may point anywhere but must not be NULL, and is aligned for its type;
+ * - what one call is lent does not overlap, except that two const arguments may.
+ *
+ * Tables: the copy table is `films` and `viewers`, the left table is `left_films` and `left_amounts`. Where the two come with
+ * different counts, the shorter one is the table's length. Disk d (from 1) has its copies from place (d - 1) * slots on.
+ */
+#ifndef JUGFJORD_H
+#define JUGFJORD_H
+
+#include <stddef.h>
+#include <stdint.h>
+
+#ifdef __cplusplus
+extern "C" {
+#endif
+
+struct jugfjord_planned {
+    uint32_t number;
+    uint32_t second;
+    uint64_t served;
+    uint64_t unserved;
+    uint32_t left; /* left films in the left table */
+};
+
+/* Plans by the sliding-window method. `list` has eight bytes a record: film number, then demand, each 32 bits, least
+ * significant byte first. Refusals 1, 2, 3, 7, 4, 5, 6. About 80 KiB of stack. */
+struct jugfjord_planned jugfjord_plan(uint32_t disks, uint32_t slots, uint32_t streams,
+                                      const uint8_t *list, size_t list_count,
+                                      uint32_t *films, size_t films_count,
+                                      uint32_t *viewers, size_t viewers_count,
+                                      uint32_t *counts, size_t counts_count,
+                                      uint32_t *left_films, size_t left_films_count,
+                                      uint32_t *left_amounts, size_t left_amounts_count);
+
+struct jugfjord_written {
+    uint32_t number;
+    uint32_t second; /* always 0 */
+    uint64_t length;
+};
+
+/* Writes the plan text of the tables to the front of `text`; 43,885 bytes are always enough. `left` is the number of left
+ * films. Refusals 1, 7, 10, 11. */
+struct jugfjord_written jugfjord_write(uint32_t disks, uint32_t slots, uint32_t streams,
+                                       const uint32_t *films, size_t films_count,
+                                       const uint32_t *viewers, size_t viewers_count,
+                                       const uint32_t *counts, size_t counts_count,
+                                       const uint32_t *left_films, size_t left_films_count,
+                                       const uint32_t *left_amounts, size_t left_amounts_count,
+                                       uint32_t left,
+                                       uint8_t *text, size_t text_count);
+
+struct jugfjord_read_plan {
+    uint32_t number;
+    uint32_t second;
+    uint32_t disks;
+    uint32_t slots;
+    uint32_t streams;
+    uint32_t left; /* left films in the left table */
+    uint64_t served;
+    uint64_t unserved;
+};
+
+/* Reads a plan text into the tables. Refusals 8, 9 with the line, 7. About 32 KiB of stack. */
+struct jugfjord_read_plan jugfjord_read(const uint8_t *text, size_t text_count,
+                                        uint32_t *films, size_t films_count,
+                                        uint32_t *viewers, size_t viewers_count,
+                                        uint32_t *counts, size_t counts_count,
+                                        uint32_t *left_films, size_t left_films_count,
+                                        uint32_t *left_amounts, size_t left_amounts_count);
+
+#ifdef __cplusplus
+}
+#endif
+
+#endif

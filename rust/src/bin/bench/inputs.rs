@@ -1,0 +1,104 @@
+//! What is planned, written and read.
+
+use jugfjord::rack::{Rack, Slots, Streams, MOST_DEMAND, MOST_DISKS, MOST_SLOTS, MOST_STREAMS};
+use jugfjord::reference::plan::{Pair, Plan};
+use jugfjord::reference::writer::text_of;
+
+/// A list for planning.
+pub struct Input {
+    pub name: &'static str,
+    pub rack: Rack,
+    pub demands: Vec<Pair>,
+    /// Whether no disk may take its window from the front of the list.
+    pub slides: bool,
+}
+
+/// The film that stays at the front of the list as long as every disk slides.
+pub const FIRST_FILM: u32 = 1;
+
+pub fn lists() -> [Input; 3] {
+    let rack = |slots| Rack::new(MOST_DISKS, Slots(slots), Streams(500));
+    [
+        Input {
+            name: "trial list, 512 films, total 32,000, seed 1",
+            rack: rack(32),
+            demands: trial_list(512, 32_000, 1),
+            slides: false,
+        },
+        Input {
+            name: "1,024 equal demands",
+            rack: rack(32),
+            demands: (1..=1_024).map(|film| (film, 31)).collect(),
+            slides: false,
+        },
+        Input {
+            name: "1,024 records, sliding on every disk",
+            rack: rack(8),
+            demands: sliding_list(),
+            slides: true,
+        },
+    ]
+}
+
+/// Zipf-like demands in order of rank, for films shuffled by a xorshift generator.
+fn trial_list(count: u32, total: u64, seed: u32) -> Vec<Pair> {
+    let weight = |rank: u32| u64::from(1_048_576 / rank);
+    let all: u64 = (1..=count).map(weight).sum();
+    let mut films: Vec<u32> = (1..=count).collect();
+    let mut value = seed;
+    for place in (2..=count).rev() {
+        value ^= value << 13;
+        value ^= value >> 17;
+        value ^= value << 5;
+        films.swap(place as usize - 1, (value % place) as usize);
+    }
+    let demand = |rank| (total * weight(rank) / all) as u32;
+    films.into_iter().zip((1..=count).map(demand)).collect()
+}
+
+/// Few films above the load behind many of demand 1. Each window ends at a large film, and
+/// takes at most seven small ones.
+fn sliding_list() -> Vec<Pair> {
+    let demand = |film| if film <= 960 { 1 } else { 600 };
+    (FIRST_FILM..=1_024)
+        .map(|film| (film, demand(film)))
+        .collect()
+}
+
+/// A plan whose text is as long as any: three copies a disk have viewers of five digits,
+/// since the load admits no fourth, and the others of four.
+pub fn largest_plan() -> Plan {
+    let viewers = |slot| if slot < 3 { 10_000 } else { 1_000 };
+    let copy = |disk: u32, slot: u32| (10_000 + MOST_DISKS * slot + disk, viewers(slot));
+    let copies = |disk| (0..MOST_SLOTS).map(|slot| copy(disk, slot)).collect();
+    Plan {
+        rack: Rack::new(MOST_DISKS, Slots(MOST_SLOTS), Streams(MOST_STREAMS)),
+        disks: (0..MOST_DISKS).map(copies).collect(),
+        left: (0..1_024).map(|at| (10_000 + at, MOST_DEMAND)).collect(),
+    }
+}
+
+/// Its text, which document 01's limits let grow to 43,885 bytes.
+pub fn text(plan: &Plan) -> Vec<u8> {
+    let text = text_of(plan).into_bytes();
+    assert_eq!(text.len(), 43_885);
+    text
+}
+
+#[cfg(test)]
+mod tests {
+    use super::trial_list;
+
+    #[test]
+    fn trial_lists_are_as_described() {
+        let list = trial_list(512, 32_000, 1);
+        let sum: u32 = list.iter().map(|(_, demand)| demand).sum();
+        let mut films: Vec<u32> = list.iter().map(|(film, _)| *film).collect();
+        films.sort_unstable();
+        assert!(films.into_iter().eq(1..=512));
+        // Worked out apart from this program.
+        assert_eq!(sum, 31_745);
+        assert_eq!(list[..2], [(330, 4_694), (493, 2_347)]);
+        assert_eq!(list[510..], [(263, 9), (34, 9)]);
+    }
+}

@@ -1,0 +1,90 @@
+//! The C library's functions and answers, as include/jugfjord.h declares them.
+
+/// What planning answers. `number` is 0, or the refusal and then all else but `second` is 0.
+#[repr(C)]
+#[derive(Clone, Copy, Debug, Default, PartialEq, Eq)]
+pub struct Planned {
+    pub number: u32,
+    pub second: u32,
+    pub served: u64,
+    pub unserved: u64,
+    pub left: u32,
+}
+
+/// What writing answers: the text's length.
+#[repr(C)]
+#[derive(Clone, Copy, Debug, Default, PartialEq, Eq)]
+pub struct Written {
+    pub number: u32,
+    pub second: u32,
+    pub length: u64,
+}
+
+/// What reading answers: the rack, the two sums and the number of left films.
+#[repr(C)]
+#[derive(Clone, Copy, Debug, Default, PartialEq, Eq)]
+pub struct ReadPlan {
+    pub number: u32,
+    pub second: u32,
+    pub disks: u32,
+    pub slots: u32,
+    pub streams: u32,
+    pub left: u32,
+    pub served: u64,
+    pub unserved: u64,
+}
+
+#[cfg(feature = "library")]
+extern "C" {
+    pub(crate) fn jugfjord_plan(
+        disks: u32,
+        slots: u32,
+        streams: u32,
+        list: *const u8,
+        list_count: usize,
+        films: *mut u32,
+        films_count: usize,
+        viewers: *mut u32,
+        viewers_count: usize,
+        counts: *mut u32,
+        counts_count: usize,
+        left_films: *mut u32,
+        left_films_count: usize,
+        left_amounts: *mut u32,
+        left_amounts_count: usize,
+    ) -> Planned;
+
+    pub(crate) fn jugfjord_write(
+        disks: u32,
+        slots: u32,
+        streams: u32,
+        films: *const u32,
+        films_count: usize,
+        viewers: *const u32,
+        viewers_count: usize,
+        counts: *const u32,
+        counts_count: usize,
+        left_films: *const u32,
+        left_films_count: usize,
+        left_amounts: *const u32,
+        left_amounts_count: usize,
+        left: u32,
+        text: *mut u8,
+        text_count: usize,
+    ) -> Written;
+
+    pub(crate) fn jugfjord_read(
+        text: *const u8,
+        text_count: usize,
+        films: *mut u32,
+        films_count: usize,
+        viewers: *mut u32,
+        viewers_count: usize,
+        counts: *mut u32,
+        counts_count: usize,
+        left_films: *mut u32,
+        left_films_count: usize,
+        left_amounts: *mut u32,
+        left_amounts_count: usize,
+    ) -> ReadPlan;
+}

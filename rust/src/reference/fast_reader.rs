@@ -1,0 +1,198 @@
+//! A fast reader: one cursor over the bytes, the copies kept aside until all is judged.
+
+use crate::ffi::ReadPlan;
+use crate::rack::{Rack, Slots, Streams, LAST_FILM, MOST_BYTES, MOST_DEMAND, MOST_RECORDS};
+use crate::refusal::Refusal;
+use crate::tables::Tables;
+
+/// What a text holds: the pairs of all disks and then of the left line, and their numbers.
+struct Parsed {
+    rack: Rack,
+    films: Vec<u32>,
+    amounts: Vec<u32>,
+    counts: Vec<u32>,
+    copies: usize,
+    served: u64,
+    unserved: u64,
+}
+
+/// Reads a plan text into the tables.
+pub fn read(text: &[u8], tables: Tables<&mut [u32]>) -> ReadPlan {
+    attempt(text, tables).unwrap_or_else(ReadPlan::from)
+}
+
+fn attempt(text: &[u8], tables: Tables<&mut [u32]>) -> Result<ReadPlan, Refusal> {
+    Refusal::unless(text.len() <= MOST_BYTES, 8)?;
+    let parsed = parse(text).map_err(|second| Refusal { number: 9, second })?;
+    let left = parsed.films.len() - parsed.copies;
+    Refusal::unless(tables.hold(parsed.rack, left), 7)?;
+    store(&parsed, tables);
+    Ok(ReadPlan {
+        number: 0,
+        second: 0,
+        disks: parsed.rack.disks,
+        slots: parsed.rack.slots.0,
+        streams: parsed.rack.streams.0,
+        left: left as u32,
+        served: parsed.served,
+        unserved: parsed.unserved,
+    })
+}
+
+/// Reads the whole text, or gives the number of the first wrong line.
+fn parse(text: &[u8]) -> Result<Parsed, u32> {
+    let mut cursor = Cursor { rest: text };
+    let rack = cursor.rack().ok_or(1u32)?;
+    let mut parsed = Parsed {
+        rack,
+        films: Vec::with_capacity(rack.places() + MOST_RECORDS),
+        amounts: Vec::with_capacity(rack.places() + MOST_RECORDS),
+        counts: Vec::with_capacity(rack.disks as usize),
+        copies: 0,
+        served: 0,
+        unserved: 0,
+    };
+    // For each film the last disk that holds it.
+    let mut holder = vec![0u8; LAST_FILM as usize + 1];
+    for disk in 1..=rack.disks {
+        parsed
+            .disk(&mut cursor, disk, &mut holder)
+            .ok_or(disk + 1)?;
+    }
+    parsed.left(&mut cursor).ok_or(rack.disks + 2)?;
+    parsed.sums(&mut cursor).ok_or(rack.disks + 3)?;
+    if cursor.rest.is_empty() {
+        Ok(parsed)
+    } else {
+        Err(rack.disks + 4)
+    }
+}
+
+impl Parsed {
+    fn push(&mut self, film: u32, amount: u32) {
+        self.films.push(film);
+        self.amounts.push(amount);
+    }
+
+    fn disk(&mut self, cursor: &mut Cursor, disk: u32, holder: &mut [u8]) -> Option<()> {
+        cursor.bytes(b"(disk ")?;
+        (cursor.number()? == disk).then_some(())?;
+        let mut load = 0;
+        while let Some((film, viewers)) = cursor.pair_or_end()? {
+            let last = holder.get_mut(film as usize)?;
+            if film == 0 || viewers == 0 || *last == disk as u8 {
+                return None;
+            }
+            *last = disk as u8;
+            load += u64::from(viewers);
+            self.push(film, viewers);
+        }
+        let count = self.films.len() - self.copies;
+        self.counts.push(count as u32);
+        self.copies += count;
+        self.served += load;
+        (count <= self.rack.slots.0 as usize && load <= u64::from(self.rack.streams.0))
+            .then_some(())
+    }
+
+    fn left(&mut self, cursor: &mut Cursor) -> Option<()> {
+        cursor.bytes(b"(left")?;
+        let mut previous = 0;
+        while let Some((film, amount)) = cursor.pair_or_end()? {
+            if film <= previous || film > LAST_FILM || amount == 0 || amount > MOST_DEMAND {
+                return None;
+            }
+            previous = film;
+            self.unserved += u64::from(amount);
+            self.push(film, amount);
+        }
+        (self.films.len() - self.copies <= MOST_RECORDS).then_some(())
+    }
+
+    fn sums(&self, cursor: &mut Cursor) -> Option<()> {
+        cursor.bytes(b"(served ")?;
+        let served = cursor.number()?;
+        cursor.bytes(b" ")?;
+        let unserved = cursor.number()?;
+        cursor.bytes(b")\n")?;
+        (u64::from(served) == self.served && u64::from(unserved) == self.unserved).then_some(())
+    }
+}
+
+fn store(parsed: &Parsed, tables: Tables<&mut [u32]>) {
+    let slots = parsed.rack.slots.0 as usize;
+    let columns = [
+        (tables.films, tables.left_films, &parsed.films),
+        (tables.viewers, tables.left_amounts, &parsed.amounts),
+    ];
+    for (places, left, values) in columns {
+        let (copies, rest) = values.split_at(parsed.copies);
+        let mut at = 0;
+        for (disk, &count) in places.chunks_exact_mut(slots).zip(&parsed.counts) {
+            let (used, free) = disk.split_at_mut(count as usize);
+            used.copy_from_slice(&copies[at..at + used.len()]);
+            free.fill(0);
+            at += used.len();
+        }
+        left[..rest.len()].copy_from_slice(rest);
+    }
+    tables.counts[..parsed.counts.len()].copy_from_slice(&parsed.counts);
+}
+
+/// The bytes not yet read.
+struct Cursor<'a> {
+    rest: &'a [u8],
+}
+
+impl Cursor<'_> {
+    #[inline]
+    fn bytes(&mut self, bytes: &[u8]) -> Option<()> {
+        self.rest = self.rest.strip_prefix(bytes)?;
+        Some(())
+    }
+
+    /// A number with no leading zero. Nothing where it passes 32 bits, since no number of an
+    /// accepted text does.
+    #[inline]
+    fn number(&mut self) -> Option<u32> {
+        let mut value = 0u32;
+        let mut count = 0;
+        while let Some(digit @ b'0'..=b'9') = self.rest.get(count).copied() {
+            value = value
+                .checked_mul(10)?
+                .checked_add(u32::from(digit - b'0'))?;
+            count += 1;
+        }
+        if count == 0 || (count > 1 && self.rest[0] == b'0') {
+            return None;
+        }
+        self.rest = &self.rest[count..];
+        Some(value)
+    }
+
+    fn rack(&mut self) -> Option<Rack> {
+        self.bytes(b"(rack ")?;
+        let disks = self.number()?;
+        self.bytes(b" ")?;
+        let slots = self.number()?;
+        self.bytes(b" ")?;
+        let streams = self.number()?;
+        self.bytes(b")\n")?;
+        let rack = Rack::new(disks, Slots(slots), Streams(streams));
+        rack.in_range().then_some(rack)
+    }
+
+    /// The line's next pair, or that the line ends here.
+    #[inline]
+    fn pair_or_end(&mut self) -> Option<Option<(u32, u32)>> {
+        if self.bytes(b")\n").is_some() {
+            return Some(None);
+        }
+        self.bytes(b" (")?;
+        let film = self.number()?;
+        self.bytes(b" ")?;
+        let amount = self.number()?;
+        self.bytes(b")")?;
+        Some(Some((film, amount)))
+    }
+}

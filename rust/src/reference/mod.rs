@@ -1,0 +1,12 @@
+//! Plain Rust with the library's results, written apart from it.
+//!
+//! `planner`, `writer` and `reader` follow the words of document 01 and are slow.
+//! `rolling`, `fast_writer` and `fast_reader` are their fast rivals for the benchmark.
+
+pub mod fast_reader;
+pub mod fast_writer;
+pub mod plan;
+pub mod planner;
+pub mod reader;
+pub mod rolling;
+pub mod writer;

@@ -1,0 +1,71 @@
+//! A plan as a value, and when it is well formed.
+
+use crate::rack::{Rack, LAST_FILM, MOST_DEMAND, MOST_RECORDS};
+use crate::tables::Tables;
+
+/// A film, then its viewers or the amount left.
+pub type Pair = (u32, u32);
+
+/// A rack with each disk's copies and the left films.
+#[derive(Clone, Debug, PartialEq, Eq)]
+pub struct Plan {
+    pub rack: Rack,
+    pub disks: Vec<Vec<Pair>>,
+    pub left: Vec<Pair>,
+}
+
+/// The sum of the second numbers.
+pub fn total(pairs: &[Pair]) -> u64 {
+    pairs.iter().map(|&(_, amount)| u64::from(amount)).sum()
+}
+
+fn is_film(film: u32) -> bool {
+    (1..=LAST_FILM).contains(&film)
+}
+
+/// At most k copies, films distinct and in range, each with viewers, at most L in sum.
+pub fn disk_is_well_formed(rack: Rack, copies: &[Pair]) -> bool {
+    let distinct = |(at, copy): (usize, &Pair)| copies[..at].iter().all(|c| c.0 != copy.0);
+    copies.len() <= rack.slots.0 as usize
+        && copies.iter().all(|c| is_film(c.0) && c.1 >= 1)
+        && copies.iter().enumerate().all(distinct)
+        && total(copies) <= u64::from(rack.streams.0)
+}
+
+/// At most 1,024 films, strictly ascending and in range, amounts 1 to 1,000,000.
+pub fn left_is_well_formed(left: &[Pair]) -> bool {
+    left.len() <= MOST_RECORDS
+        && left.windows(2).all(|two| two[0].0 < two[1].0)
+        && left
+            .iter()
+            .all(|l| is_film(l.0) && (1..=MOST_DEMAND).contains(&l.1))
+}
+
+impl Plan {
+    pub fn served(&self) -> u64 {
+        self.disks.iter().map(|copies| total(copies)).sum()
+    }
+
+    pub fn unserved(&self) -> u64 {
+        total(&self.left)
+    }
+
+    /// Fills the copy table with zero entries behind each disk's copies, the count table,
+    /// and as much of the left table as there are left films.
+    pub fn store(&self, tables: &mut Tables<&mut [u32]>) {
+        let slots = self.rack.slots.0 as usize;
+        tables.films[..self.rack.places()].fill(0);
+        tables.viewers[..self.rack.places()].fill(0);
+        for (disk, copies) in self.disks.iter().enumerate() {
+            tables.counts[disk] = copies.len() as u32;
+            for (place, &(film, viewers)) in copies.iter().enumerate() {
+                tables.films[disk * slots + place] = film;
+                tables.viewers[disk * slots + place] = viewers;
+            }
+        }
+        for (place, &(film, amount)) in self.left.iter().enumerate() {
+            tables.left_films[place] = film;
+            tables.left_amounts[place] = amount;
+        }
+    }
+}

@@ -1,0 +1,110 @@
+//! A plain reader. A line is right when its own numbers, written as the writer would write
+//! them, give the line back, and when they are in range.
+
+use super::plan::{disk_is_well_formed, left_is_well_formed, Pair, Plan};
+use super::writer::{disk_line, left_line, rack_line, served_line};
+use crate::ffi::ReadPlan;
+use crate::rack::{Rack, Slots, Streams, MOST_BYTES};
+use crate::refusal::Refusal;
+use crate::tables::Tables;
+
+/// Reads a plan text into the tables.
+pub fn read(text: &[u8], mut tables: Tables<&mut [u32]>) -> ReadPlan {
+    let plan = match judge(text, &tables) {
+        Ok(plan) => plan,
+        Err(refusal) => return refusal.into(),
+    };
+    plan.store(&mut tables);
+    ReadPlan {
+        number: 0,
+        second: 0,
+        disks: plan.rack.disks,
+        slots: plan.rack.slots.0,
+        streams: plan.rack.streams.0,
+        left: plan.left.len() as u32,
+        served: plan.served(),
+        unserved: plan.unserved(),
+    }
+}
+
+fn judge(text: &[u8], tables: &Tables<&mut [u32]>) -> Result<Plan, Refusal> {
+    Refusal::unless(text.len() <= MOST_BYTES, 8)?;
+    let plan = plan_of(text).map_err(|second| Refusal { number: 9, second })?;
+    Refusal::unless(tables.hold(plan.rack, plan.left.len()), 7)?;
+    Ok(plan)
+}
+
+/// The plan whose text this is, or the number of the first wrong line.
+pub fn plan_of(text: &[u8]) -> Result<Plan, u32> {
+    let mut lines = Lines { text, number: 0 };
+    let rack = lines.next(rack_of)?;
+    let disks = (1..=rack.disks)
+        .map(|disk| lines.next(|line| disk_of(rack, disk, line)))
+        .collect::<Result<Vec<_>, _>>()?;
+    let left = lines.next(left_of)?;
+    let plan = Plan { rack, disks, left };
+    let sums = served_line(plan.served(), plan.unserved());
+    lines.next(|line| (line == sums.as_bytes()).then_some(()))?;
+    match lines.text {
+        [] => Ok(plan),
+        _ => Err(lines.number + 1),
+    }
+}
+
+/// The text behind the lines taken so far, and their number.
+struct Lines<'a> {
+    text: &'a [u8],
+    number: u32,
+}
+
+impl Lines<'_> {
+    /// What the next ended line holds, or its number.
+    fn next<T>(&mut self, holds: impl FnOnce(&[u8]) -> Option<T>) -> Result<T, u32> {
+        self.number += 1;
+        let end = self.text.iter().position(|&byte| byte == b'\n');
+        let end = end.ok_or(self.number)?;
+        let (line, rest) = self.text.split_at(end);
+        self.text = &rest[1..];
+        holds(line).ok_or(self.number)
+    }
+}
+
+/// Every run of digits as a number. A number too large stops at the largest, which no
+/// range admits.
+fn numbers(line: &[u8]) -> Vec<u32> {
+    let runs = line.split(|byte| !byte.is_ascii_digit());
+    let value = |run: &[u8]| {
+        run.iter().fold(0u32, |high, &digit| {
+            high.saturating_mul(10)
+                .saturating_add(u32::from(digit - b'0'))
+        })
+    };
+    runs.filter(|run| !run.is_empty()).map(value).collect()
+}
+
+fn pairs(numbers: &[u32]) -> Vec<Pair> {
+    numbers
+        .chunks_exact(2)
+        .map(|two| (two[0], two[1]))
+        .collect()
+}
+
+fn rack_of(line: &[u8]) -> Option<Rack> {
+    let &[disks, slots, streams] = numbers(line).as_slice() else {
+        return None;
+    };
+    let rack = Rack::new(disks, Slots(slots), Streams(streams));
+    (rack.in_range() && rack_line(rack).as_bytes() == line).then_some(rack)
+}
+
+fn disk_of(rack: Rack, disk: u32, line: &[u8]) -> Option<Vec<Pair>> {
+    let copies = pairs(numbers(line).get(1..)?);
+    let same = disk_line(disk as usize, &copies).as_bytes() == line;
+    (same && disk_is_well_formed(rack, &copies)).then_some(copies)
+}
+
+fn left_of(line: &[u8]) -> Option<Vec<Pair>> {
+    let left = pairs(&numbers(line));
+    let same = left_line(&left).as_bytes() == line;
+    (same && left_is_well_formed(&left)).then_some(left)
+}

@@ -1,0 +1,82 @@
+//! A plain writer: gathers the plan from the tables, formats it, then copies the text.
+
+use super::plan::{disk_is_well_formed, left_is_well_formed, Pair, Plan};
+use crate::ffi::Written;
+use crate::rack::Rack;
+use crate::refusal::Refusal;
+use crate::tables::Tables;
+
+/// Writes the text of the plan in the tables, with so many left films.
+pub fn write(rack: Rack, tables: Tables<&[u32]>, left: u32, space: &mut [u8]) -> Written {
+    match written(rack, tables, left, space.len()) {
+        Ok(text) => {
+            space[..text.len()].copy_from_slice(text.as_bytes());
+            Written {
+                length: text.len() as u64,
+                ..Written::default()
+            }
+        }
+        Err(refusal) => refusal.into(),
+    }
+}
+
+fn written(rack: Rack, tables: Tables<&[u32]>, left: u32, space: usize) -> Result<String, Refusal> {
+    Refusal::unless(rack.in_range(), 1)?;
+    Refusal::unless(tables.hold(rack, left as usize), 7)?;
+    let plan = gather(rack, tables, left as usize).ok_or(Refusal::plain(10))?;
+    let text = text_of(&plan);
+    Refusal::unless(text.len() <= space, 11)?;
+    Ok(text)
+}
+
+/// The plan that the tables hold, if it is well formed.
+fn gather(rack: Rack, tables: Tables<&[u32]>, left: usize) -> Option<Plan> {
+    let copies = pairs(tables.films, tables.viewers, rack.places());
+    let left = pairs(tables.left_films, tables.left_amounts, left);
+    let mut disks = Vec::new();
+    for (places, &count) in copies.chunks(rack.slots.0 as usize).zip(tables.counts) {
+        let used = places.get(..count as usize)?;
+        let unused = &places[used.len()..];
+        if !disk_is_well_formed(rack, used) || unused.iter().any(|&place| place != (0, 0)) {
+            return None;
+        }
+        disks.push(used.to_vec());
+    }
+    left_is_well_formed(&left).then_some(Plan { rack, disks, left })
+}
+
+fn pairs(films: &[u32], amounts: &[u32], count: usize) -> Vec<Pair> {
+    let both = films.iter().copied().zip(amounts.iter().copied());
+    both.take(count).collect()
+}
+
+/// The plan's text, well formed or not.
+pub fn text_of(plan: &Plan) -> String {
+    let disks = plan.disks.iter().enumerate();
+    let mut lines = vec![rack_line(plan.rack)];
+    lines.extend(disks.map(|(at, copies)| disk_line(at + 1, copies)));
+    lines.push(left_line(&plan.left));
+    lines.push(served_line(plan.served(), plan.unserved()));
+    lines.into_iter().map(|line| line + "\n").collect()
+}
+
+pub fn rack_line(rack: Rack) -> String {
+    format!("(rack {} {} {})", rack.disks, rack.slots.0, rack.streams.0)
+}
+
+pub fn disk_line(disk: usize, copies: &[Pair]) -> String {
+    format!("(disk {disk}{})", inner(copies))
+}
+
+pub fn left_line(left: &[Pair]) -> String {
+    format!("(left{})", inner(left))
+}
+
+pub fn served_line(served: u64, unserved: u64) -> String {
+    format!("(served {served} {unserved})")
+}
+
+fn inner(pairs: &[Pair]) -> String {
+    let pair = |(film, amount): &Pair| format!(" ({film} {amount})");
+    pairs.iter().map(pair).collect()
+}

@@ -1,0 +1,68 @@
+//! Safe calls of the C library. The only module with unsafe code.
+//!
+//! Each call hands over slices as pointer and count. The borrows last for the whole call,
+//! columns that are written are borrowed alone, and the library keeps no pointer.
+
+#![allow(unsafe_code)]
+
+use crate::ffi::{self, Planned, ReadPlan, Written};
+use crate::rack::Rack;
+use crate::tables::Tables;
+
+/// Calls a function with some arguments, the five columns, and the arguments after them.
+macro_rules! call {
+    ($function:ident, ($($before:expr),*), $tables:ident.$pointer:ident, ($($after:expr),*)) => {
+        ffi::$function(
+            $($before,)*
+            $tables.films.$pointer(),
+            $tables.films.len(),
+            $tables.viewers.$pointer(),
+            $tables.viewers.len(),
+            $tables.counts.$pointer(),
+            $tables.counts.len(),
+            $tables.left_films.$pointer(),
+            $tables.left_films.len(),
+            $tables.left_amounts.$pointer(),
+            $tables.left_amounts.len(),
+            $($after),*
+        )
+    };
+}
+
+/// Plans a demand list into the tables. A refusal leaves the tables as they were.
+pub fn plan(rack: Rack, list: &[u8], tables: Tables<&mut [u32]>) -> Planned {
+    let (slots, streams) = (rack.slots.0, rack.streams.0);
+    let (bytes, count) = (list.as_ptr(), list.len());
+    // SAFETY: every pointer comes from a live slice, together with that slice's length.
+    unsafe {
+        call!(
+            jugfjord_plan,
+            (rack.disks, slots, streams, bytes, count),
+            tables.as_mut_ptr,
+            ()
+        )
+    }
+}
+
+/// Writes the text of the plan that the tables hold, with so many left films.
+/// Bytes after the plan's text stay as they were. A refusal leaves all bytes so.
+pub fn write(rack: Rack, tables: Tables<&[u32]>, left: u32, text: &mut [u8]) -> Written {
+    let (slots, streams) = (rack.slots.0, rack.streams.0);
+    let (space, count) = (text.as_mut_ptr(), text.len());
+    // SAFETY: as in `plan`. The library only reads the tables.
+    unsafe {
+        call!(
+            jugfjord_write,
+            (rack.disks, slots, streams),
+            tables.as_ptr,
+            (left, space, count)
+        )
+    }
+}
+
+/// Reads a plan text into the tables. A refusal leaves the tables as they were.
+pub fn read(text: &[u8], tables: Tables<&mut [u32]>) -> ReadPlan {
+    let (bytes, count) = (text.as_ptr(), text.len());
+    // SAFETY: as in `plan`.
+    unsafe { call!(jugfjord_read, (bytes, count), tables.as_mut_ptr, ()) }
+}

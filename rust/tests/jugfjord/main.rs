@@ -1,0 +1,15 @@
+//! Tests of the library and of the plain Rust modules, against each other and against the
+//! cases of document 01. Without the feature `library` only the Rust modules are tested.
+
+mod cases;
+mod damage;
+mod dice;
+mod edges;
+mod guarded;
+mod lists;
+mod planning;
+mod plans;
+mod reading;
+mod subjects;
+mod tally;
+mod writing;

@@ -1,0 +1,122 @@
+//! Random lists through all planners.
+
+use jugfjord::ffi::Planned;
+use jugfjord::rack::RECORD;
+
+use crate::dice::Dice;
+use crate::guarded::{GuardedTables, Need};
+use crate::lists::{good, Case, FAULTS, KINDS};
+use crate::subjects::PLANNERS;
+use crate::tally::Tally;
+
+const LISTS: usize = 200_000;
+
+#[test]
+fn planners_agree_on_random_lists() {
+    let mut dice = Dice::new(1);
+    let mut tally = Tally::new("planning");
+    for _ in 0..LISTS {
+        let case = random_case(&mut dice, &mut tally);
+        let planned = compare(&case);
+        tally.answer(planned.number);
+        tally_shape(&case, &planned, &mut tally);
+    }
+    let mut least = vec![
+        ("accepted", LISTS / 2),
+        ("refused 1", 2_000),
+        ("refused 2", 2_000),
+        ("refused 3", 2_000),
+        ("refused 4", 2_000),
+        ("refused 5", 2_000),
+        ("refused 6", 2_000),
+        ("refused 7", 2_000),
+        ("some film left", 20_000),
+        ("nothing left", 20_000),
+        ("one stream", 2_000),
+        ("largest rack", 500),
+        ("1,024 records", 500),
+        ("no record", 500),
+    ];
+    least.extend(KINDS.map(|(name, _)| (name, 20_000)));
+    least.extend(FAULTS.map(|(name, _)| (name, 5_000)));
+    tally.close(&least);
+}
+
+/// A list of some kind. A third have a fault, and some of these have two.
+fn random_case(dice: &mut Dice, tally: &mut Tally) -> Case {
+    let (name, kind) = dice.pick(&KINDS);
+    let (mut case, need) = good(dice, kind);
+    tally.count(name);
+    if dice.one_in(3) {
+        for _ in 0..dice.pick(&[1, 1, 1, 2]) {
+            let (name, fault) = dice.pick(&FAULTS);
+            fault(dice, &mut case, need);
+            tally.count(name);
+        }
+    }
+    case
+}
+
+/// Runs all planners on the case and compares their answers and every place.
+fn compare(case: &Case) -> Planned {
+    let mut expected = case.tables.clone();
+    let answer = PLANNERS[0].1(case.rack, &case.list, expected.lend());
+    check_rules(case, &answer, &expected);
+    for (name, planner) in &PLANNERS[1..] {
+        let mut tables = case.tables.clone();
+        let planned = planner(case.rack, &case.list, tables.lend());
+        assert_eq!(planned, answer, "{name} on {:?} {:?}", case.rack, case.list);
+        assert!(
+            tables == expected,
+            "{name} on {:?} {:?}: {tables:?}, not {expected:?}",
+            case.rack,
+            case.list
+        );
+    }
+    answer
+}
+
+/// What holds of any answer: a refusal changes nothing, places beyond are untouched, and
+/// the sums are those of the tables and of the list.
+fn check_rules(case: &Case, planned: &Planned, after: &GuardedTables) {
+    if planned.number != 0 {
+        assert_eq!(after, &case.tables);
+        return;
+    }
+    let places = case.rack.places();
+    let count = case.list.len() / RECORD;
+    Need::new(case.rack, count).assert_rest_same(&case.tables, after);
+    let view = after.view();
+    assert_eq!(planned.served, sum(&view.viewers[..places]));
+    assert_eq!(planned.unserved, sum(&view.left_amounts[..count]));
+    assert_eq!(planned.served + planned.unserved, total(&case.list));
+}
+
+fn sum(amounts: &[u32]) -> u64 {
+    amounts.iter().copied().map(u64::from).sum()
+}
+
+fn total(list: &[u8]) -> u64 {
+    let demand = |record: &[u8]| u32::from_le_bytes(record[4..].try_into().expect("four bytes"));
+    list.chunks(RECORD).map(demand).map(u64::from).sum()
+}
+
+/// Counts what kind of call was accepted.
+fn tally_shape(case: &Case, planned: &Planned, tally: &mut Tally) {
+    if planned.number != 0 {
+        return;
+    }
+    tally.count(match planned.left {
+        0 => "nothing left",
+        _ => "some film left",
+    });
+    let shapes = [
+        ("one stream", case.rack.streams.0 == 1),
+        ("largest rack", case.rack.places() == 2_048),
+        ("1,024 records", case.list.len() == 8_192),
+        ("no record", case.list.is_empty()),
+    ];
+    for (name, _) in shapes.iter().filter(|(_, met)| *met) {
+        tally.count(*name);
+    }
+}

@@ -1,0 +1,141 @@
+//! Random plans: well formed, and wrong in each way that document 01 names.
+
+use jugfjord::rack::{Rack, LAST_FILM, MOST_DEMAND, MOST_RECORDS, MOST_SLOTS};
+use jugfjord::reference::plan::{Pair, Plan};
+
+use crate::dice::Dice;
+use crate::lists::{bad_rack, films, rack};
+
+/// A well-formed plan. Few come from the method.
+pub fn good(dice: &mut Dice) -> Plan {
+    let rack = rack(dice);
+    let disks = (0..rack.disks).map(|_| disk(dice, rack)).collect();
+    let count = match dice.below(100) {
+        0 => MOST_RECORDS,
+        1..=30 => 0,
+        _ => dice.below(6),
+    };
+    let left = left(dice, count);
+    Plan { rack, disks, left }
+}
+
+/// Copies with at most the load in sum, and often just the load.
+fn disk(dice: &mut Dice, rack: Rack) -> Vec<Pair> {
+    let most = rack.slots.0.min(rack.streams.0);
+    let count = dice.within(0, most);
+    let mut room = rack.streams.0;
+    let mut copies = Vec::new();
+    for (film, after) in films(dice, count as usize)
+        .into_iter()
+        .zip((0..count).rev())
+    {
+        let viewers = match dice.below(4) {
+            0 => 1,
+            1 => room - after,
+            _ => dice.within(1, (room - after).min(2 * rack.streams.0 / count + 1)),
+        };
+        room -= viewers;
+        copies.push((film, viewers));
+    }
+    copies
+}
+
+/// So many left films in ascending order.
+fn left(dice: &mut Dice, count: usize) -> Vec<Pair> {
+    let mut films = films(dice, count);
+    films.sort_unstable();
+    let mut amount = || match dice.below(8) {
+        0 => 1,
+        1 => MOST_DEMAND,
+        _ => dice.within(1, MOST_DEMAND),
+    };
+    films.into_iter().map(|film| (film, amount())).collect()
+}
+
+/// Makes a well-formed plan wrong, or finds no place for it.
+pub type Wrong = fn(&mut Dice, &mut Plan) -> Option<()>;
+
+/// Wrong plans that still fit the tables of their rack.
+pub const WRONG: [(&str, Wrong); 10] = [
+    ("film of a copy out of range", |dice, plan| {
+        copy(dice, plan)?.0 = dice.pick(&[0, LAST_FILM + 1, u32::MAX]);
+        Some(())
+    }),
+    ("film twice on a disk", |dice, plan| {
+        let copies = &mut *plan.disks.iter_mut().find(|copies| copies.len() >= 2)?;
+        let last = copies.len() - 1;
+        copies[last].0 = copies[dice.below(last)].0;
+        Some(())
+    }),
+    ("copy without viewers", |dice, plan| {
+        copy(dice, plan)?.1 = 0;
+        Some(())
+    }),
+    ("one viewer above the load", |dice, plan| {
+        let load = plan.rack.streams.0;
+        let copies = &mut *plan.disks.iter_mut().find(|copies| !copies.is_empty())?;
+        let others: u32 = copies[1..].iter().map(|copy| copy.1).sum();
+        copies[0].1 = load - others + dice.pick(&[1, 1, 65_536]);
+        Some(())
+    }),
+    ("viewers that pass 32 bits in sum", |_, plan| {
+        let copies = &mut *plan.disks.iter_mut().find(|copies| copies.len() >= 2)?;
+        copies[0].1 = u32::MAX;
+        copies[1].1 = 1;
+        Some(())
+    }),
+    ("left film out of range", |dice, plan| {
+        let (first, rest) = plan.left.split_first_mut()?;
+        match rest.last_mut() {
+            Some(last) if dice.one_in(2) => last.0 = LAST_FILM + 1,
+            _ => first.0 = 0,
+        }
+        Some(())
+    }),
+    ("left films descending", |dice, plan| {
+        let at = dice.below(plan.left.len().checked_sub(1).filter(|&n| n > 0)?);
+        plan.left.swap(at, at + 1);
+        Some(())
+    }),
+    ("left film twice", |dice, plan| {
+        let at = dice.below(plan.left.len().checked_sub(1).filter(|&n| n > 0)?);
+        plan.left[at + 1].0 = plan.left[at].0;
+        Some(())
+    }),
+    ("left amount out of range", |dice, plan| {
+        let at = dice.below(Some(plan.left.len()).filter(|&n| n > 0)?);
+        plan.left[at].1 = dice.pick(&[0, MOST_DEMAND + 1, u32::MAX]);
+        Some(())
+    }),
+    ("1,025 left films", |dice, plan| {
+        plan.left = dice.one_in(20).then(|| left(dice, MOST_RECORDS + 1))?;
+        Some(())
+    }),
+];
+
+/// Some copy of the plan.
+fn copy<'a>(dice: &mut Dice, plan: &'a mut Plan) -> Option<&'a mut Pair> {
+    let at = dice.below(plan.disks.len());
+    let count = Some(plan.disks[at].len()).filter(|&count| count > 0)?;
+    Some(&mut plan.disks[at][dice.below(count)])
+}
+
+/// Wrong plans that only a text can show.
+pub const WRONG_SHAPE: [(&str, Wrong); 4] = [
+    ("more copies than slots", |dice, plan| {
+        let slots = plan.rack.slots.0;
+        plan.rack.streams.0 = plan.rack.streams.0.max(MOST_SLOTS + 1);
+        let copies = films(dice, slots as usize + 1).into_iter();
+        *plan.disks.last_mut()? = copies.map(|film| (film, 1)).collect();
+        Some(())
+    }),
+    ("a disk too few", |_, plan| plan.disks.pop().map(|_| ())),
+    ("a disk too many", |_, plan| {
+        plan.disks.push(Vec::new());
+        Some(())
+    }),
+    ("rack out of range", |dice, plan| {
+        plan.rack = bad_rack(dice, plan.rack);
+        Some(())
+    }),
+];

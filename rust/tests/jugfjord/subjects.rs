@@ -1,0 +1,35 @@
+//! What is tested: the library, where it is linked, and the plain Rust modules.
+
+use jugfjord::ffi::{Planned, ReadPlan, Written};
+use jugfjord::rack::Rack;
+use jugfjord::reference::{fast_reader, fast_writer, planner, reader, rolling, writer};
+use jugfjord::tables::Tables;
+#[cfg(feature = "library")]
+use jugfjord::wrap;
+
+pub type Planner = fn(Rack, &[u8], Tables<&mut [u32]>) -> Planned;
+pub type Writer = fn(Rack, Tables<&[u32]>, u32, &mut [u8]) -> Written;
+pub type Reader = fn(&[u8], Tables<&mut [u32]>) -> ReadPlan;
+
+/// The first of each is the one that the others are compared with.
+pub const PLANNERS: &[(&str, Planner)] = &[
+    ("planner", planner::plan),
+    ("rolling", rolling::plan),
+    ("rolling by insertion", rolling::plan_by_insertion),
+    #[cfg(feature = "library")]
+    ("library", wrap::plan),
+];
+
+pub const WRITERS: &[(&str, Writer)] = &[
+    ("writer", writer::write),
+    ("fast writer", fast_writer::write),
+    #[cfg(feature = "library")]
+    ("library", wrap::write),
+];
+
+pub const READERS: &[(&str, Reader)] = &[
+    ("reader", reader::read),
+    ("fast reader", fast_reader::read),
+    #[cfg(feature = "library")]
+    ("library", wrap::read),
+];

@@ -1,0 +1,173 @@
+//! Well-formed and wrong plans through all writers, into spaces of all lengths.
+
+use jugfjord::ffi::Written;
+use jugfjord::rack::Rack;
+use jugfjord::reference::plan::Plan;
+use jugfjord::reference::writer::text_of;
+
+use crate::dice::Dice;
+use crate::guarded::{Guarded, GuardedTables, Need};
+use crate::lists::bad_rack;
+use crate::plans::{good, WRONG};
+use crate::subjects::WRITERS;
+use crate::tally::Tally;
+
+const PLANS: usize = 100_000;
+
+/// One call of writing.
+struct Case {
+    rack: Rack,
+    tables: GuardedTables,
+    left: u32,
+    space: Guarded<u8>,
+}
+
+#[test]
+fn writers_agree_on_right_and_wrong_plans() {
+    let mut dice = Dice::new(3);
+    let mut tally = Tally::new("writing");
+    for _ in 0..PLANS {
+        let (case, expected) = random_case(&mut dice, &mut tally);
+        let written = compare(&case);
+        tally.answer(written.number);
+        if let Some(number) = expected {
+            assert_eq!(written.number, number);
+        }
+    }
+    let mut least = vec![
+        ("accepted", 20_000),
+        ("refused 1", 2_000),
+        ("refused 7", 2_000),
+        ("refused 10", 20_000),
+        ("refused 11", 10_000),
+        ("space one byte short", 5_000),
+    ];
+    least.extend(WRONG.map(|(name, _)| (name, 50)));
+    least.extend(WRONG_TABLES.map(|(name, _)| (name, 1_000)));
+    tally.close(&least);
+}
+
+/// A call and, where one thing alone is wrong with it, the refusal that is due.
+fn random_case(dice: &mut Dice, tally: &mut Tally) -> (Case, Option<u32>) {
+    let mut plan = good(dice);
+    let mut faults = Vec::new();
+    if dice.one_in(3) {
+        let (name, wrong) = dice.pick(&WRONG);
+        if wrong(dice, &mut plan).is_some() {
+            tally.count(name);
+            faults.push(10);
+        }
+    }
+    let need = Need::new(plan.rack, plan.left.len());
+    let mut case = stored(dice, &plan, need);
+    if dice.one_in(6) {
+        let (name, wrong) = dice.pick(&WRONG_TABLES);
+        if wrong(dice, &plan, &mut case.tables) {
+            tally.count(name);
+            faults.push(10);
+        }
+    }
+    faults.extend(wrong_call(dice, need, &mut case));
+    faults.extend(choose_space(dice, &plan, &mut case, tally));
+    let alone = match faults.as_slice() {
+        [] => Some(0),
+        [number] => Some(*number),
+        _ => None,
+    };
+    (case, alone)
+}
+
+/// The plan in tables that hold it, with no space yet.
+fn stored(dice: &mut Dice, plan: &Plan, need: Need) -> Case {
+    let mut tables = need.met(dice);
+    plan.store(&mut tables.lend());
+    Case {
+        rack: plan.rack,
+        tables,
+        left: plan.left.len() as u32,
+        space: Guarded::new(0, || 0),
+    }
+}
+
+/// Sometimes a rack out of range, a table too short, or more left films than the table has.
+fn wrong_call(dice: &mut Dice, need: Need, case: &mut Case) -> Option<u32> {
+    match dice.below(24) {
+        0 => {
+            case.rack = bad_rack(dice, case.rack);
+            Some(1)
+        }
+        1 => need.miss(dice, &mut case.tables).then_some(7),
+        2 => {
+            let places = case.tables.left_len() as u32;
+            case.left = dice.pick(&[places + 1, places.max(1_024) + 1, u32::MAX]);
+            Some(7)
+        }
+        _ => None,
+    }
+}
+
+/// Gives the call its space: exact, longer or shorter than the text.
+fn choose_space(dice: &mut Dice, plan: &Plan, case: &mut Case, tally: &mut Tally) -> Option<u32> {
+    let length = text_of(plan).len();
+    let (space, refusal) = match dice.below(6) {
+        0 => (length - 1, Some(11)),
+        1 => (dice.below(length), Some(11)),
+        2 => (length + dice.below(9), None),
+        _ => (length, None),
+    };
+    if space == length - 1 {
+        tally.count("space one byte short");
+    }
+    case.space = Guarded::new(space, || dice.next() as u8);
+    refusal
+}
+
+/// Makes the tables of a well-formed plan wrong, or gives false.
+type WrongTables = fn(&mut Dice, &Plan, &mut GuardedTables) -> bool;
+
+const WRONG_TABLES: [(&str, WrongTables); 3] = [
+    ("count above the slots", |dice, plan, tables| {
+        let disk = dice.below(plan.disks.len());
+        let slots = plan.rack.slots.0;
+        let counts = tables.lend().counts;
+        counts[disk] = dice.pick(&[slots + 1, slots + 65_536, 1 << 31, u32::MAX]);
+        true
+    }),
+    ("film in an unused place", |dice, plan, tables| {
+        mark_unused(dice, plan, tables.lend().films)
+    }),
+    ("viewers in an unused place", |dice, plan, tables| {
+        mark_unused(dice, plan, tables.lend().viewers)
+    }),
+];
+
+/// Writes a number into the first unused place or the last place of some disk.
+fn mark_unused(dice: &mut Dice, plan: &Plan, column: &mut [u32]) -> bool {
+    let slots = plan.rack.slots.0 as usize;
+    let disk = dice.below(plan.disks.len());
+    let used = plan.disks[disk].len();
+    if used < slots {
+        let place = dice.pick(&[used, slots - 1]);
+        column[disk * slots + place] = dice.pick(&[1, 65_536, u32::MAX]);
+    }
+    used < slots
+}
+
+/// Runs all writers on the case and compares their answers and every byte.
+fn compare(case: &Case) -> Written {
+    let mut expected = case.space.clone();
+    let view = || case.tables.view();
+    let answer = WRITERS[0].1(case.rack, view(), case.left, expected.as_mut());
+    if answer.number != 0 {
+        assert_eq!(expected, case.space);
+    }
+    let after = answer.length as usize;
+    assert_eq!(expected.as_ref()[after..], case.space.as_ref()[after..]);
+    for (name, writer) in &WRITERS[1..] {
+        let mut space = case.space.clone();
+        let written = writer(case.rack, view(), case.left, space.as_mut());
+        assert_eq!(written, answer, "{name} on {:?}", case.tables);
+        assert!(space == expected, "{name} on {:?}", case.tables);
+    }
+    answer
+}
