@@ -1,3 +1,4 @@
 pub mod Classes
 pub mod Pieces
 pub mod Bytes
+pub mod PairLists

@@ -7,6 +7,7 @@ use native.Mathlib.Numerals.{add-one}
 use lib.ListN.{length, drop, getD, drop-of-length-le}
 use lib.Seq.{drop-cons}
 use Rattle.plan_text.specs.Parse.{Parse, parsed, unparsed, next, byte, literal}
+use Rattle.plan_text.proofs.Choices.{cond-true, cond-false}
 use Rattle.reader.specs.declared.cursor.Cursor.{Cursor}
 use Rattle.reader.specs.Cursor.{place, valued}
 
@@ -73,3 +74,10 @@ pub literal-done :
     (expected : List ℕ) (i : ℕ) (q : Parse (Unit {0})) → length expected ≤ i → next q (λ u t. literal (drop i expected) t) ≡ q
 literal-done expected i (parsed tt rest) h = ap (λ (l : List ℕ). literal l rest) (drop-of-length-le expected h)
 literal-done expected i unparsed h = refl
+
+-- What a cursor stands for, by whether it fits.
+pub fitting : (text : List ℕ) (c : Cursor) → c .fits ≡ true → place text c ≡ parsed tt (drop (c .at) text)
+fitting text c e = cond-true (c .fits) (parsed tt (drop (c .at) text)) unparsed e
+
+pub unfitting : (text : List ℕ) (c : Cursor) → c .fits ≡ false → place text c ≡ unparsed
+unfitting text c e = cond-false (c .fits) (parsed tt (drop (c .at) text)) unparsed e

@@ -2,3 +2,4 @@
 mod class;
 mod cursor;
 mod number;
+mod pairs;
