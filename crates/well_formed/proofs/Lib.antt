@@ -1,0 +1,5 @@
+pub mod Conjunction
+pub mod Entries
+pub mod Films
+pub mod Sums
+pub mod Zeros

@@ -1,0 +1,28 @@
+// The sum of the places of one slice.
+ghost use mathlib.Core.Path.{_≡_};
+ghost use Prim.Native.Nat.{_+_};
+ghost use Rattle.well_formed.specs.Sum.{Summed, capped};
+
+// A sum and a number more, or the largest number of 64 bits.
+fn plus(sum: u64, n: u32) -> u64
+    ensures { λ r. ⌜ r ≡ capped (sum + n) ⌝ }
+{
+    let more = n as u64;
+    if sum <= u64::MAX - more {
+        return sum + more;
+    }
+    u64::MAX
+}
+
+// The sum of all places, or the largest number of 64 bits where the sum passes it.
+pub fn total(amounts: &[u32]) -> u64
+    ensures { λ r. ⌜ Summed (now (amounts .entry)) r ⌝ }
+{
+    let mut sum = 0;
+    let mut i = 0;
+    while i < amounts.len() {
+        sum = plus(sum, amounts[i]);
+        i += 1;
+    }
+    sum
+}
