@@ -118,8 +118,8 @@ pub digit-least : (b : ℕ) → isDigit b ≡ true → 48 ≤ b
 digit-least b e = leb-true 48 b (and-left (leb 48 b) (leb b 57) e)
 
 -- One byte as a list.
-one : (e : ℕ) (t : List ℕ) → byte e t ≡ literal (e ∷ []) t
-one e t = go (byte e t)
+pub literal-one : (e : ℕ) (t : List ℕ) → byte e t ≡ literal (e ∷ []) t
+literal-one e t = go (byte e t)
   where
     go : (p : Parse (Unit {0})) → p ≡ next p (λ u s. parsed tt s)
     go (parsed tt s) = refl
@@ -129,7 +129,7 @@ one e t = go (byte e t)
 pub literal-digit :
     (n : ℕ) (p : Parse (Unit {0})) → n < 10 → next p (λ u t. byte (48 + n) t) ≡ next p (λ u t. literal (decimal n) t)
 literal-digit n p h =
-    next-same p (λ u t. byte (48 + n) t) (λ u t. literal (decimal n) t) (λ u t. one (48 + n) t ∙ ap (λ (l : List ℕ). literal l t) (sym (decimal-small n h)))
+    next-same p (λ u t. byte (48 + n) t) (λ u t. literal (decimal n) t) (λ u t. literal-one (48 + n) t ∙ ap (λ (l : List ℕ). literal l t) (sym (decimal-small n h)))
 
 -- Another is the digits of its tenth and one byte.
 pub literal-digits :
@@ -142,6 +142,6 @@ literal-digits n q front p h e f =
     (λ u t. next (literal (decimal (n / 10)) t) (λ v s. byte (48 + n % 10) s))
     (λ u t. literal (decimal n) t)
     (λ u t.
-    next-same (literal (decimal (n / 10)) t) (λ v s. byte (48 + n % 10) s) (λ v s. literal (digit (n % 10) ∷ []) s) (λ v s. one (48 + n % 10) s)
+    next-same (literal (decimal (n / 10)) t) (λ v s. byte (48 + n % 10) s) (λ v s. literal (digit (n % 10) ∷ []) s) (λ v s. literal-one (48 + n % 10) s)
     ∙ sym (literal-append (decimal (n / 10)) (digit (n % 10) ∷ []) t)
     ∙ ap (λ (l : List ℕ). literal l t) (sym (decimal-large n h)))

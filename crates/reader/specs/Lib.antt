@@ -1,3 +1,4 @@
 pub mod Class
 pub mod Cursor
 pub mod Pairs
+pub mod Line
