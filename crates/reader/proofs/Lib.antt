@@ -3,3 +3,7 @@ pub mod Pieces
 pub mod Bytes
 pub mod PairLists
 pub mod Lines
+pub mod Padding
+pub mod DiskTables
+pub mod DiskReading
+pub mod DiskSteps

@@ -4,3 +4,4 @@ mod cursor;
 mod line;
 mod number;
 mod pairs;
+mod plan;
