@@ -21,7 +21,7 @@ use Rattle.plan_text.proofs.Choices.{false-true, and-right}
 use Rattle.plan_text.proofs.Limits.{sizes-disks, sizes-slots, sizes-streams}
 use Rattle.reader.specs.declared.cursor.Cursor.{Cursor}
 use Rattle.reader.specs.declared.line.PairsLine.{PairsLine}
-use Rattle.reader.specs.declared.plan.DiskLines.{DiskLines}
+use Rattle.reader.specs.declared.disks.DiskLines.{DiskLines}
 use Rattle.reader.specs.Cursor.{place, valued}
 use Rattle.reader.specs.Pairs.{front}
 use Rattle.reader.specs.Line.{sizes, LineRead}

@@ -7,3 +7,6 @@ pub mod Padding
 pub mod DiskTables
 pub mod DiskReading
 pub mod DiskSteps
+pub mod TailReading
+pub mod PlanReading
+pub mod Fronts

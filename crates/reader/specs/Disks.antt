@@ -12,7 +12,7 @@ use Rattle.placement.specs.declared.Rack.{Rack}
 use Rattle.plan_text.specs.Reading.{Reading, whole, refusedAfter, Tail, sizesAccepted, readDisks, readLeft}
 use Rattle.plan_text.specs.Capped.{saturated}
 use Rattle.reader.specs.declared.cursor.Cursor.{Cursor}
-use Rattle.reader.specs.declared.plan.DiskLines.{DiskLines}
+use Rattle.reader.specs.declared.disks.DiskLines.{DiskLines}
 use Rattle.reader.specs.Line.{sizes}
 
 -- A list of n zeros.

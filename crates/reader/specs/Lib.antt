@@ -3,3 +3,7 @@ pub mod Cursor
 pub mod Pairs
 pub mod Line
 pub mod Disks
+pub mod Tail
+pub mod Answers
+pub mod Pass
+pub mod Stored

@@ -1,59 +1,44 @@
-// The lines of all disks, and the whole text of a plan.
+// The whole text of a plan.
+use crate::PlanRead;
+use crate::ReadAnswer;
 use crate::cursor::Cursor;
-use crate::line::disk_line;
-use placement::Rack;
-ghost use Rattle.reader.specs.Disks.{DisksReady, DisksRead};
+use crate::disks::disk_lines;
+use crate::line::rack_line;
+use crate::tail::tail_lines;
+ghost use Rattle.reader.specs.Answers.{tablesOf};
+ghost use Rattle.reader.specs.Pass.{Workspace, Passed};
 
-// The number of disk lines that fit, what they serve, and the cursor behind them.
-pub struct DiskLines {
-    pub lines: u32,
-    pub served: u64,
-    pub after: Cursor,
-}
-
-// The lines of all disks; each disk's copies are stored from its first place on.
-fn disk_lines(
+// The plan of a text, read line by line into tables that are zero, or the number of the first line that does not fit.
+pub(crate) fn read_lines(
     text: &[u8],
-    start: Cursor,
-    rack: Rack,
     films: &mut [u32],
     viewers: &mut [u32],
     counts: &mut [u32],
-) -> DiskLines
-    requires { ⌜ DisksReady start rack (now films) (now viewers) (now counts) ⌝ }
-    ensures { λ r. ⌜ DisksRead (now (text .entry)) start rack (now (films .entry)) (now (viewers .entry)) (now (counts .entry)) (now (films .exit)) (now (viewers .exit)) (now (counts .exit)) r ⌝ }
+    leftfilms: &mut [u32],
+    leftamounts: &mut [u32],
+) -> ReadAnswer
+    requires { ⌜ Workspace (tablesOf (now films) (now viewers) (now counts) (now leftfilms) (now leftamounts)) ⌝ }
+    ensures { λ r. ⌜ Passed (now (text .entry)) (tablesOf (now (films .entry)) (now (viewers .entry)) (now (counts .entry)) (now (leftfilms .entry)) (now (leftamounts .entry))) (tablesOf (now (films .exit)) (now (viewers .exit)) (now (counts .exit)) (now (leftfilms .exit)) (now (leftamounts .exit))) r ⌝ }
 {
-    let slots = rack.slots.0 as usize;
-    let mut here = start;
-    let mut served = 0u64;
-    let mut disk = 0u32;
-    while disk < rack.disks {
-        let from = (disk as usize) * slots;
-        let to = from + slots;
-        let line = disk_line(
-            text,
-            here,
-            disk + 1,
-            rack,
-            &mut films[from..to],
-            &mut viewers[from..to],
-        );
-        let after = line.after;
-        if !after.fits {
-            return DiskLines {
-                lines: disk,
-                served,
-                after,
-            };
-        }
-        counts[disk as usize] = line.count as u32;
-        served += line.sum;
-        here = after;
-        disk += 1;
+    let first = rack_line(text, Cursor { at: 0, fits: true });
+    let rack = first.rack;
+    let start = first.after;
+    if !start.fits {
+        return ReadAnswer::Line(1);
     }
-    DiskLines {
-        lines: disk,
-        served,
-        after: here,
+    let disks = disk_lines(text, start, rack, films, viewers, counts);
+    let after = disks.after;
+    if !after.fits {
+        return ReadAnswer::Line(disks.lines + 2);
     }
+    let tail = tail_lines(text, after, disks.served, leftfilms, leftamounts);
+    if !tail.fits {
+        return ReadAnswer::Line(rack.disks + tail.lines + 2);
+    }
+    ReadAnswer::Plan(PlanRead {
+        rack,
+        served: disks.served,
+        unserved: tail.unserved,
+        left: tail.count as u32,
+    })
 }

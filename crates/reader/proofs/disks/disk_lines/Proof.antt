@@ -1,4 +1,4 @@
--- `reader::plan::disk_lines` meets its contract: before each line the disks so far are stored, and come before what the rest says.
+-- `reader::disks::disk_lines` meets its contract: before each line the disks so far are stored, and come before what the rest says.
 use mathlib.Core.Path.{_≡_, refl, sym, ap, _∙_}
 use Prim.Native.Nat.{ℕ, suc, _≤_, _<_, _-_, _+_, _*_}
 use native.Mathlib.Omega.{arith}
@@ -9,8 +9,8 @@ use borrow.Rule.Slice.PartMut.{putMid, same-len-mid}
 use Rattle.plan_text.proofs.Limits.{sizes-disks}
 use Rattle.reader.specs.Line.{sizes}
 use Rattle.reader.proofs.DiskSteps.{SoFar, so-far-none, so-far-done, so-far-stopped, so-far-more, room, films-part, viewers-part, small}
-use Rattle.reader.proofs.plan.disk_lines.Statement.{statement}
-use Rattle.reader.proofs.plan.disk_lines.Tie as tie
+use Rattle.reader.proofs.disks.disk_lines.Statement.{statement}
+use Rattle.reader.proofs.disks.disk_lines.Tie as tie
 
 abbrev Inv-loop : tie.InvT-loop
 Inv-loop text rack films₀ viewers₀ counts₀ slots here₀ served₀ disk₀ films viewers counts here served disk =
