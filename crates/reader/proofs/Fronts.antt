@@ -8,6 +8,7 @@ use native.Mathlib.Numerals.{add-one}
 use lib.ListN.{length, take, drop, set, getD}
 use lib.Seq.{take-at}
 use Rattle.placement.specs.Tables.{written}
+use Rattle.reader.specs.Answers.{tablesOf}
 use Rattle.reader.specs.Stored.{frontCopied}
 
 copied-suc :
@@ -38,3 +39,14 @@ second-fails a b c e f = first-fails b c f ∙ sym (ap (λ (x : Bool). x && (b &
 
 pub third-decides : (a b c d : Bool) → a ≡ true → b ≡ true → d ≡ c → d ≡ (a && (b && c))
 third-decides a b c d e f g = g ∙ sym (ap (λ (x : Bool). x && c) f) ∙ sym (ap (λ (x : Bool). x && (b && c)) e)
+
+-- Tables are the same where their five lists are.
+pub tables-same :
+    {f f′ v v′ c c′ g g′ a a′ : List ℕ} → f ≡ f′ → v ≡ v′ → c ≡ c′ → g ≡ g′ → a ≡ a′
+    → tablesOf f v c g a ≡ tablesOf f′ v′ c′ g′ a′
+tables-same {f} {f′} {v} {v′} {c} {c′} {g} {g′} {a} {a′} h i j k l =
+    ap (λ (x : List ℕ). tablesOf x v c g a) h
+    ∙ ap (λ (x : List ℕ). tablesOf f′ x c g a) i
+    ∙ ap (λ (x : List ℕ). tablesOf f′ v′ x g a) j
+    ∙ ap (λ (x : List ℕ). tablesOf f′ v′ c′ x a) k
+    ∙ ap (λ (x : List ℕ). tablesOf f′ v′ c′ g′ x) l

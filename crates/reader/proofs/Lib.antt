@@ -10,3 +10,5 @@ pub mod DiskSteps
 pub mod TailReading
 pub mod PlanReading
 pub mod Fronts
+pub mod Verdicts
+pub mod Calls

@@ -7,3 +7,4 @@ pub mod Tail
 pub mod Answers
 pub mod Pass
 pub mod Stored
+pub mod Promise

@@ -6,7 +6,7 @@ use lib.ListN.{length}
 use Rattle.placement.specs.Tables.{Tables}
 use Rattle.plan_text.specs.Plan.{Plan}
 use Rattle.plan_text.specs.Reading.{Reading, whole, planRead}
-use Rattle.plan_text.specs.ReadCall.{answerTo, verdictOf, holdingPlan}
+use Rattle.plan_text.specs.ReadCall.{plan, answerTo, verdictOf, textVerdict, judging, holdingPlan}
 use Rattle.reader.specs.declared.ReadAnswer.{ReadAnswer}
 use Rattle.reader.specs.Answers.{numbersOf}
 use Rattle.reader.specs.Disks.{Zeros}
@@ -23,3 +23,8 @@ pub record Workspace (t : Tables) : Type 0 where
 pub record Passed (text : List ℕ) (entry exit : Tables) (answer : ReadAnswer) : Type 0 where
   pub numbers : numbersOf answer ≡ answerTo (verdictOf (planRead text))
   pub tables : (p : Plan) → planRead text ≡ whole p → exit ≡ holdingPlan p entry
+
+-- The same with the length of the text judged first.
+pub record Judged (text : List ℕ) (entry exit : Tables) (answer : ReadAnswer) : Type 0 where
+  pub numbers : numbersOf answer ≡ judging text
+  pub tables : (p : Plan) → textVerdict text ≡ plan p → exit ≡ holdingPlan p entry

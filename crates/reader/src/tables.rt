@@ -55,3 +55,31 @@ fn copy_front(from: &[u32], n: usize, to: &mut [u32])
         i += 1;
     }
 }
+
+// The plan's places of some tables, stored in others.
+pub(crate) fn store(
+    plan: PlanRead,
+    films: &[u32],
+    viewers: &[u32],
+    counts: &[u32],
+    leftfilms: &[u32],
+    leftamounts: &[u32],
+    tofilms: &mut [u32],
+    toviewers: &mut [u32],
+    tocounts: &mut [u32],
+    toleftfilms: &mut [u32],
+    toleftamounts: &mut [u32],
+)
+    requires { ⌜ Roomy (plan .rack .disks * plan .rack .slots .0) (plan .rack .disks) (plan .left) (tablesOf (now films) (now viewers) (now counts) (now leftfilms) (now leftamounts)) × Roomy (plan .rack .disks * plan .rack .slots .0) (plan .rack .disks) (plan .left) (tablesOf (now tofilms) (now toviewers) (now tocounts) (now toleftfilms) (now toleftamounts)) ⌝ }
+    ensures { λ r. ⌜ tablesOf (now (tofilms .exit)) (now (toviewers .exit)) (now (tocounts .exit)) (now (toleftfilms .exit)) (now (toleftamounts .exit)) ≡ frontsCopied (plan .rack .disks * plan .rack .slots .0) (plan .rack .disks) (plan .left) (tablesOf (now (films .entry)) (now (viewers .entry)) (now (counts .entry)) (now (leftfilms .entry)) (now (leftamounts .entry))) (tablesOf (now (tofilms .entry)) (now (toviewers .entry)) (now (tocounts .entry)) (now (toleftfilms .entry)) (now (toleftamounts .entry))) ⌝ }
+{
+    let disks = plan.rack.disks as usize;
+    let slots = plan.rack.slots.0 as usize;
+    let left = plan.left as usize;
+    let places = disks * slots;
+    copy_front(films, places, tofilms);
+    copy_front(viewers, places, toviewers);
+    copy_front(counts, disks, tocounts);
+    copy_front(leftfilms, left, toleftfilms);
+    copy_front(leftamounts, left, toleftamounts);
+}
