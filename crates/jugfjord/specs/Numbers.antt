@@ -3,7 +3,10 @@ use Prim.Native.Nat.{ℕ}
 use Rattle.placement.specs.Tables.{Tables}
 use Rattle.placement.specs.Planning.{Numbers}
 use Rattle.plan_text.specs.WriteCall.{WriteCall, WriteNumbers}
+use Rattle.plan_text.specs.ReadCall.{ReadNumbers}
+use Rattle.reader.specs.declared.PlanRead.{PlanRead}
 use Rattle.jugfjord.specs.declared.planning.Planned.{Planned}
+use Rattle.jugfjord.specs.declared.reading.ReadPlan.{ReadPlan}
 use Rattle.jugfjord.specs.declared.writing.WrittenNumbers.{WrittenNumbers}
 
 -- Of `struct jugfjord_planned`.
@@ -24,3 +27,29 @@ writtenNumbers r = record { refusal = r .number; second = r .second; length = r 
 abbrev pub writeCall : ℕ → ℕ → ℕ → Tables → ℕ → WriteCall
 writeCall disks slots streams t left =
     record { disks = disks; slots = slots; streams = streams; tables = t; left = left }
+
+-- Of `struct jugfjord_read_plan`.
+abbrev pub readNumbers : ReadPlan → ReadNumbers
+readNumbers r = record {
+  refusal = r .number;
+  second = r .second;
+  disks = r .disks;
+  slots = r .slots;
+  streams = r .streams;
+  served = r .served;
+  unserved = r .unserved;
+  left = r .left;
+}
+
+-- Of a plan that was read.
+abbrev pub planNumbers : PlanRead → ReadNumbers
+planNumbers p = record {
+  refusal = 0;
+  second = 0;
+  disks = p .rack .disks;
+  slots = p .rack .slots .0;
+  streams = p .rack .streams .0;
+  served = p .served;
+  unserved = p .unserved;
+  left = p .left;
+}
