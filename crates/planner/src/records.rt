@@ -2,26 +2,15 @@
 use crate::Answer;
 use placement::MOST_DEMAND;
 use placement::MOST_FILM;
+use placement::number32;
 ghost use mathlib.Core.Path.{_≡_};
 ghost use mathlib.Core.Bool.{false};
 ghost use mathlib.Core.List.{[]};
-ghost use Prim.Native.Nat.{_+_, _/_, _≤_};
+ghost use Prim.Native.Nat.{_/_, _≤_};
 ghost use lib.ListN.{replicate};
 ghost use Rattle.placement.specs.Rack.{inRange, mostFilm, mostRecords};
-ghost use Rattle.placement.specs.Records.{number32, recordsOf, judgeRecords};
+ghost use Rattle.placement.specs.Records.{recordsOf, judgeRecords};
 ghost use Rattle.planner.specs.Answers.{verdictOf};
-
-// The number in the four bytes from `at` on, least significant byte first.
-pub(crate) fn le32(bytes: &[u8], at: usize) -> u32
-    requires { do ⌜ at + 4 ≤ (← ⟦bytes.len()⟧) ⌝ }
-    ensures { λ r. ⌜ r ≡ number32 (now (bytes .entry)) at ⌝ }
-{
-    let first = bytes[at] as u32;
-    let second = bytes[at + 1] as u32;
-    let third = bytes[at + 2] as u32;
-    let fourth = bytes[at + 3] as u32;
-    first + 256 * second + 65536 * third + 16777216 * fourth
-}
 
 // Whether a film number is accepted.
 fn film_in_range(film: u32) -> bool
@@ -42,8 +31,8 @@ fn check_records(list: &[u8], seen: &mut [bool]) -> Answer
     let count = list.len() / 8;
     let mut i = 0;
     while i < count {
-        let film = le32(list, 8 * i);
-        let demand = le32(list, 8 * i + 4);
+        let film = number32(list, 8 * i);
+        let demand = number32(list, 8 * i + 4);
         let position = i as u32 + 1;
         if !film_in_range(film) {
             return Answer::FilmOutOfRange(position);

@@ -20,20 +20,20 @@ abbrev μ-loop : tie.MeasureT-loop
 loop-holds : tie.Need-loop-holds Inv-loop μ-loop
 loop-holds c = checked-none (c .before .before .args .list .now) (c .before .before .args .seen .now) (c .before .before .pre .1)
 
-mul-le32 : tie.Need-mul-le32 Inv-loop μ-loop
-mul-le32 c = omega arith
+mul-number32 : tie.Need-mul-number32 Inv-loop μ-loop
+mul-number32 c = omega arith
 
-le32-requires : tie.Need-le32-requires Inv-loop μ-loop
-le32-requires c κs = omega arith
+number32-requires : tie.Need-number32-requires Inv-loop μ-loop
+number32-requires c κs = search needs
 
-mul-le32-2 : tie.Need-mul-le32-2 Inv-loop μ-loop
-mul-le32-2 c = omega arith
+mul-number32-2 : tie.Need-mul-number32-2 Inv-loop μ-loop
+mul-number32-2 c = omega arith
 
-add-le32 : tie.Need-add-le32 Inv-loop μ-loop
-add-le32 c = omega arith
+add-number32 : tie.Need-add-number32 Inv-loop μ-loop
+add-number32 c = omega arith
 
-le32-requires-2 : tie.Need-le32-requires-2 Inv-loop μ-loop
-le32-requires-2 c κs = omega arith
+number32-requires-2 : tie.Need-number32-requires-2 Inv-loop μ-loop
+number32-requires-2 c κs = search needs
 
 cast-position : tie.Need-cast-position Inv-loop μ-loop
 cast-position c = omega arith
@@ -47,16 +47,16 @@ film-in-range-requires c κs = search needs
 -- the record that is read
 reading :
     (c : tie.After-film-in-range Inv-loop μ-loop)
-    → Reading (c .before .before .before .before .before .before .before .args .list .now) (c .before .before .before .before .loop .seen) (c .before .before .before .before .loop .i) (c .before .before .le32 .result) (c .before .le322 .result)
+    → Reading (c .before .before .before .before .before .before .before .args .list .now) (c .before .before .before .before .loop .seen) (c .before .before .before .before .loop .i) (c .before .before .number32 .result) (c .before .number322 .result)
 reading c = record {
   checked = c .before .before .before .before .loop .inv;
   here = c .before .before .before .loop-test .taken;
-  filmIs = c .before .before .le32 .ensures;
-  demandIs = c .before .le322 .ensures;
+  filmIs = c .before .before .number32 .ensures;
+  demandIs = c .before .number322 .ensures;
 }
 
 -- the test of its film
-film-tested : (c : tie.Else1 Inv-loop μ-loop) → inRange mostFilm (c .before .before .before .le32 .result) ≡ true
+film-tested : (c : tie.Else1 Inv-loop μ-loop) → inRange mostFilm (c .before .before .before .number32 .result) ≡ true
 film-tested c = sym (c .before .film-in-range .ensures) ∙ not-false _ (c .if1 .left)
 
 -- the table keeps its length
@@ -124,11 +124,11 @@ check-records-spec =
     Inv-loop
     μ-loop
     loop-holds
-    mul-le32
-    le32-requires
-    mul-le32-2
-    add-le32
-    le32-requires-2
+    mul-number32
+    number32-requires
+    mul-number32-2
+    add-number32
+    number32-requires-2
     cast-position
     add-position
     film-in-range-requires
