@@ -26,11 +26,8 @@ use Rattle.reader.specs.Pass.{Judged, Workspace}
 use Rattle.reader.specs.Stored.{Roomy, frontsCopied, frontCopied}
 use Rattle.reader.specs.Promise.{ReadPromise}
 use Rattle.reader.proofs.Fronts.{copied-written, tables-same}
+use Rattle.reader.proofs.Promises.{read-promised}
 use Rattle.reader.proofs.Verdicts.{Found, found-plan, few-disks, few-places, few-left, disk-count, all-places}
-
--- Both equations, with what the promise says in words.
-promised : (text : List ℕ) (entry exit : Tables) (answer : ReadNumbers) → answer ≡ reading text entry → exit ≡ tablesAfterReading text entry → ReadPromise text entry exit answer
-promised text entry exit answer numbers tables = record { numbers = numbers; tables = tables }
 
 -- The verdict decides.
 by-verdict :
@@ -38,7 +35,7 @@ by-verdict :
     → answer ≡ answerTo v → exit ≡ tablesGiven entry v → ReadPromise text entry exit answer
 unfolding reading tablesAfterReading
 by-verdict text entry exit answer v e f g =
-    promised text entry exit answer (f ∙ sym (ap answerTo e)) (g ∙ sym (ap (tablesGiven entry) e))
+    read-promised text entry exit answer (f ∙ sym (ap answerTo e)) (g ∙ sym (ap (tablesGiven entry) e))
 
 judging-is : (text : List ℕ) → judging text ≡ answerTo (textVerdict text)
 unfolding judging

@@ -11,4 +11,6 @@ pub mod TailReading
 pub mod PlanReading
 pub mod Fronts
 pub mod Verdicts
+pub mod ReadBack
+pub mod Promises
 pub mod Calls
