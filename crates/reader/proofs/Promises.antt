@@ -3,21 +3,20 @@ use mathlib.Core.Path.{_≡_, refl, sym, ap, _∙_, subst}
 use mathlib.Core.Bool.{Bool, true, false, cond}
 use mathlib.Core.List.{List}
 use mathlib.Core.Logic.{_⊎_, inl, inr}
-use Prim.Native.Nat.{ℕ, suc, _≤_}
+use Prim.Native.Nat.{ℕ, _≤_}
 use native.Mathlib.Omega.{arith}
 use borrow.Author.Tests.{le-leb}
 use lib.Dec.{leb}
 use lib.ListN.{length}
 use Rattle.placement.specs.Tables.{Tables}
 use Rattle.plan_text.specs.Plan.{Plan}
-use Rattle.plan_text.specs.Text.{textOf}
 use Rattle.plan_text.specs.Accepted.{Accepted, RefusedLine}
 use Rattle.plan_text.specs.Held.{planHeld}
 use Rattle.plan_text.specs.Reading.{Reading, whole, refusedAfter, planRead}
 use Rattle.plan_text.specs.ReadCall.{Verdict, plan, refused, verdictOf, answerTo, textVerdict, withTables, tablesGiven, roomForPlan, mostBytes, judging, reading, tablesAfterReading, holdingPlan, ReadNumbers}
 use Rattle.plan_text.proofs.Laws.{read-wellFormed, read-text, read-refused, accepted-read}
 use Rattle.plan_text.proofs.LongestText.{text-fits}
-use Rattle.reader.specs.Promise.{PlanOf, PlanStored, JudgePromise, ReadPromise}
+use Rattle.reader.specs.Promise.{PlanOf, JudgePromise, ReadPromise}
 use Rattle.reader.proofs.Verdicts.{Found, found-plan}
 use Rattle.reader.proofs.ReadBack.{held-back}
 
@@ -126,3 +125,11 @@ read-promised text entry exit answer e g =
           (sym (refusal-same ∙ ap (λ (x : Verdict). answerTo (withTables entry x) .refusal) (accepted-verdict text a)))
           (plan-or-short entry (a .plan));
     }
+
+-- The verdict decides.
+pub by-verdict :
+    (text : List ℕ) (entry exit : Tables) (answer : ReadNumbers) (v : Verdict) → withTables entry (textVerdict text) ≡ v
+    → answer ≡ answerTo v → exit ≡ tablesGiven entry v → ReadPromise text entry exit answer
+unfolding reading tablesAfterReading
+by-verdict text entry exit answer v e f g =
+    read-promised text entry exit answer (f ∙ sym (ap answerTo e)) (g ∙ sym (ap (tablesGiven entry) e))

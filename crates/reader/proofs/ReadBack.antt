@@ -1,14 +1,14 @@
 -- Tables in which a well-formed plan was stored hold it.
 use mathlib.Core.Path.{_≡_, refl, sym, ap, _∙_}
-use mathlib.Core.Bool.{Bool, true, _&&_}
+use mathlib.Core.Bool.{true, _&&_}
 use mathlib.Core.List.{List, [], _∷_, _++_, map, append-assoc}
-use Prim.Native.Nat.{ℕ, suc, _-_, _≤_}
+use Prim.Native.Nat.{ℕ, _-_, _≤_}
 use native.Mathlib.Omega.{arith}
 use borrow.Author.Tests.{leb-true}
 use lib.Dec.{leb}
 use lib.ListN.{length, take, drop, replicate, length-map}
 use lib.Seq.{take-at, drop-at}
-use Rattle.placement.specs.Items.{Item, item, total, filmOf, amountOf}
+use Rattle.placement.specs.Items.{Item, total, filmOf, amountOf}
 use Rattle.placement.specs.Rack.{rackOf}
 use Rattle.placement.specs.Tables.{Tables, padded, places, written}
 use Rattle.placement.specs.Held.{entries, copiesFrom}
@@ -17,7 +17,7 @@ use Rattle.plan_text.specs.Held.{planHeld}
 use Rattle.plan_text.specs.ReadCall.{holdingPlan}
 use Rattle.plan_text.proofs.Choices.{and-left, and-right}
 use Rattle.reader.proofs.Padding.{padded-length}
-use Rattle.reader.proofs.Verdicts.{disk-count, disks-pass}
+use Rattle.reader.proofs.PlanSizes.{disk-count, disks-pass}
 
 entries-back : (xs : List Item) → entries (map filmOf xs) (map amountOf xs) ≡ xs
 entries-back [] = refl
