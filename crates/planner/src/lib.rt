@@ -11,12 +11,11 @@ mod store; // store.rt: the copies of one disk
 mod window; // window.rt: the window of a disk
 mod worklist; // worklist.rt: the list of the method as packed keys
 
+pub use answer_numbers::PlanNumbers;
+pub use answer_numbers::numbers;
 use fulfil::fill_tables;
 use judge::judge;
 use placement::Rack;
-
-pub use answer_numbers::PlanNumbers;
-pub use answer_numbers::numbers;
 ghost use Rattle.placement.specs.Tables.{tables};
 ghost use Rattle.placement.specs.PlanPromise.{PlanPromise};
 ghost use Rattle.planner.specs.Answers.{numbersOf};
