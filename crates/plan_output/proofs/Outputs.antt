@@ -5,9 +5,10 @@ use mathlib.Core.List.{List}
 use Prim.Native.Nat.{ℕ, _-_, _≤_, _<_}
 use native.Mathlib.Omega.{arith}
 use borrow.Author.Tests.{lt-ltb, le-ltb, le-leb, lt-leb}
-use lib.ListN.{length, take, drop, length-drop}
+use lib.ListN.{length, take, drop, length-append, length-drop}
 use lib.Seq.{take-length}
 use Rattle.placement.specs.Records.{Verdict, planned, refused, number32}
+use Rattle.placement.specs.Tables.{written}
 use Rattle.placement.specs.Planning.{Call, Numbers, verdict}
 use Rattle.placement.proofs.Bounds.{call-wellFormed}
 use Rattle.placement.proofs.Tests.{by-order}
@@ -94,12 +95,14 @@ call-same input {disks} {slots} {streams} d k l =
     ∙ ap (λ (n : ℕ). callOf (number32 input 0) (number32 input 4) n (drop headBytes input)) l
 
 -- The answer never passes the space.
-pub output-fits : {input entry exit : List ℕ} {answer : ℕ} → OutputPromise input entry exit answer → answer ≤ length entry
+pub output-fits : {input entry exit : List ℕ} {answer : ℕ} → OutputPromise input entry exit answer → answer ≤ length exit
 output-fits {input} {entry} {exit} {answer} promise =
     by-order (length entry) (length (outputOf input))
     (λ short.
     let none : answer ≡ 0 = promise .count ∙ ap (λ (b : Bool). cond b (length (outputOf input)) 0) (lt-leb _ _ short) in
     omega (arith, none))
     (λ fits.
-    let all : answer ≡ length (outputOf input) = promise .count ∙ ap (λ (b : Bool). cond b (length (outputOf input)) 0) (le-leb _ _ fits) in
-    omega (arith, all))
+    let test = le-leb (length (outputOf input)) (length entry) fits in
+    let all : answer ≡ length (outputOf input) = promise .count ∙ ap (λ (b : Bool). cond b (length (outputOf input)) 0) test in
+    let held : exit ≡ written (outputOf input) entry = promise .bytes ∙ ap (λ (b : Bool). cond b (written (outputOf input) entry) entry) test in
+    omega (arith, all, ap length held, length-append (outputOf input) (drop (length (outputOf input)) entry)))
