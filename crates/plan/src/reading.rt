@@ -5,6 +5,7 @@ ghost use mathlib.Core.Path.{_≡_};
 ghost use Prim.Native.Nat.{_≤_};
 ghost use lib.ListN.{length};
 ghost use Rattle.io.specs.Counts.{Counts};
+ghost use Rattle.plan.specs.Counted.{Counted};
 
 // How many bytes come next, up to 65,536: 0 at the end of the input.
 fn count_some() -> usize {
@@ -16,7 +17,7 @@ fn count_some() -> usize {
 // turns count down from a number that no input uses up.
 fn count_on(first: usize) -> usize
     requires { ⌜ first ≤ 8219 ⌝ }
-    ensures { λ r. ⌜ r ≤ 8219 ⌝ }
+    ensures { λ r. ⌜ Counted first r ⌝ }
 {
     let mut kept = first;
     let mut turns = u64::MAX;

@@ -12,7 +12,8 @@ same-length : tie.Need-same-length
 same-length c = search needs
 
 returns : tie.Need-returns
-returns c = short-promise _ (c .before .before .before .before .if1 .taken) (c .before .before .write-refusal .ensures)
+returns c =
+    short-promise (c .before .before .before .before .before .before .before .args .input .now) (omega (arith, c .before .before .before .before .if1 .taken)) (c .before .before .write-refusal .ensures)
 
 number32-requires : tie.Need-number32-requires
 number32-requires c κs = search needs
