@@ -1,15 +1,15 @@
 -- The part of an input that is kept stands for the whole: the program prints the same for it.
-use mathlib.Core.Path.{_≡_, refl, sym, ap, ap₂, subst, _∙_}
+use mathlib.Core.Path.{_≡_, refl, sym, ap, ap₂, _∙_}
 use mathlib.Core.Bool.{Bool, true, false, cond}
-use mathlib.Core.List.{List, [], _∷_, _++_}
-use Prim.Native.Nat.{ℕ, zero, suc, _+_, _-_, _*_, _/_, _%_, _≤_, _<_, min}
+use mathlib.Core.List.{List, []}
+use Prim.Native.Nat.{ℕ, _+_, _-_, _%_, _≤_, _<_}
 use native.Mathlib.Omega.{arith}
-use borrow.Author.Tests.{le-leb, lt-leb, leb-true, leb-false, le-ltb}
+use borrow.Author.Tests.{le-leb, lt-leb, leb-false, le-ltb}
 use lib.Dec.{leb, ltb, eqb}
-use lib.ListN.{length, take, drop, getD, length-take, length-drop}
+use lib.ListN.{length, take, length-take, length-drop}
 use lib.Seq.{getD-take, take-length}
 use Rattle.placement.specs.Rack.{rackAccepted, mostRecords}
-use Rattle.placement.specs.Records.{Verdict, planned, refused, unless, number32, judgeRecords}
+use Rattle.placement.specs.Records.{Verdict, refused, unless, number32, judgeRecords}
 use Rattle.placement.specs.Tables.{Tables}
 use Rattle.placement.specs.Planning.{Call, verdict, recordCount, recordsIn, roomFor}
 use Rattle.plan_text.specs.Refusal.{refusalText}

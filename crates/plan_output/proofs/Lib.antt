@@ -1,1 +1,5 @@
 pub mod Kept
+pub mod Small
+pub mod Answers
+pub mod Texts
+pub mod Outputs

@@ -1,5 +1,5 @@
 -- The input of the program `plan`: three numbers and the records, and how much of a long input stands for the whole.
-use Prim.Native.Nat.{ℕ, _+_, _-_, _*_, _%_}
+use Prim.Native.Nat.{ℕ, _+_, _-_, _%_}
 use mathlib.Core.Bool.{cond}
 use mathlib.Core.List.{List}
 use lib.Dec.{leb}

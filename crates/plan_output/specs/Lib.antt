@@ -1,4 +1,5 @@
 pub mod Input
 pub mod Output
+pub mod Shown
 pub mod KeepPromise
 pub mod OutputPromise

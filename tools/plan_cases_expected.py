@@ -1,0 +1,170 @@
+#!/usr/bin/env python3
+"""A planner of its own, written from the words of document 01 alone: it writes the data files and the expected output of plan_cases.
+
+Run it from anywhere; it writes below crates/plan_cases. The results that document 01 itself prints stand in PRINTED and are compared.
+"""
+import pathlib
+import struct
+
+ROOT = pathlib.Path(__file__).resolve().parent.parent
+CRATE = ROOT / "crates" / "plan_cases"
+
+
+def window(items, slots, load):
+    """The window of one disk: start and size, from a list of (demand, film) in 01's order."""
+    for size in range(1, min(slots, len(items)) + 1):
+        if sum(demand for demand, _ in items[:size]) >= load:
+            return 0, size
+    for start in range(1, len(items) - slots + 1):
+        if sum(demand for demand, _ in items[start:start + slots]) >= load:
+            return start, slots
+    return max(0, len(items) - slots), min(slots, len(items))
+
+
+def fill(items, slots, load):
+    """The copies of one disk, and the list after it."""
+    start, size = window(items, slots, load)
+    chosen = items[start:start + size]
+    rest = items[:start] + items[start + size:]
+    copies = [(film, demand) for demand, film in chosen]
+    over = sum(demand for demand, _ in chosen) - load
+    if over >= 0 and chosen:
+        film, demand = copies[-1]
+        copies[-1] = (film, demand - over)
+        if over > 0:
+            rest = sorted(rest + [(over, film)])
+    return copies, rest
+
+
+def refusal(disks, slots, load, data):
+    """01's first refusal of planning, as its numbers, or None."""
+    if not (1 <= disks <= 64 and 1 <= slots <= 32 and 1 <= load <= 65535):
+        return (1,)
+    if len(data) % 8 != 0:
+        return (2,)
+    if len(data) // 8 > 1024:
+        return (3,)
+    seen = set()
+    for position, (film, demand) in enumerate(struct.iter_unpack("<II", data), 1):
+        if not 1 <= film <= 65535:
+            return (4, position)
+        if demand > 1000000:
+            return (5, position)
+        if film in seen:
+            return (6, position)
+        seen.add(film)
+    return None
+
+
+def form(*words):
+    return "(" + " ".join(str(word) for word in words) + ")"
+
+
+def pairs(entries):
+    return [form(film, number) for film, number in entries]
+
+
+def printed(data):
+    """What `plan` prints for these bytes."""
+    if len(data) < 12:
+        return form("refused", 2) + "\n"
+    disks, slots, load = struct.unpack("<III", data[:12])
+    numbers = refusal(disks, slots, load, data[12:])
+    if numbers is not None:
+        return form("refused", *numbers) + "\n"
+    items = sorted((demand, film) for film, demand in struct.iter_unpack("<II", data[12:]) if demand >= 1)
+    lines = [form("rack", disks, slots, load)]
+    served = 0
+    for disk in range(1, disks + 1):
+        copies, items = fill(items, slots, load)
+        served += sum(viewers for _, viewers in copies)
+        lines.append(form("disk", disk, *pairs(copies)))
+    left = sorted((film, demand) for demand, film in items)
+    lines.append(form("left", *pairs(left)))
+    lines.append(form("served", served, sum(demand for _, demand in left)))
+    return "".join(line + "\n" for line in lines)
+
+
+def bytes_of(disks, slots, load, *records):
+    return struct.pack("<III", disks, slots, load) + b"".join(struct.pack("<II", film, demand) for film, demand in records)
+
+
+def long_input(length):
+    """The rule of the long inputs: rack 3, 4, 50; record i, from 0, has film i + 1 and demand i % 100."""
+    count = (length - 12 + 7) // 8
+    return bytes_of(3, 4, 50, *((i + 1, i % 100) for i in range(count)))[:length]
+
+
+# The files, in the order in which the program reads them.
+FILES = {
+    "case_b": bytes_of(1, 2, 5),
+    "case_c": bytes_of(2, 1, 2, (1, 1), (2, 3)),
+    "case_d": bytes_of(1, 3, 10, (1, 4), (2, 6), (3, 10)),
+    "case_e": bytes_of(2, 2, 10, (1, 3), (3, 4), (2, 13)),
+    "case_f": bytes_of(2, 2, 5, (9, 1000000)),
+    "case_g": bytes_of(1, 4, 9, (4, 0), (1, 2), (2, 3)),
+    "case_h": bytes_of(1, 1, 5, (7, 5), (2, 5)),
+    "case_i": bytes_of(1, 1, 5, (5, 3), (5, 3)),
+    "disks_0": bytes_of(0, 1, 1),
+    "disks_64": bytes_of(64, 32, 65535, (65535, 1000000), (1, 1)),
+    "disks_65": bytes_of(65, 1, 1),
+    "slots_0": bytes_of(1, 0, 1),
+    "slots_33": bytes_of(1, 33, 1),
+    "load_0": bytes_of(1, 1, 0),
+    "load_65536": bytes_of(1, 1, 65536),
+    "odd_bytes": bytes_of(1, 1, 1, (1, 1)) + bytes(3),
+    "odd_bytes_bad_rack": bytes_of(65, 1, 1) + bytes(7),
+    "odd_bytes_bad_film": bytes_of(1, 1, 1, (0, 1)) + bytes(1),
+    "film_0": bytes_of(1, 1, 1, (1, 1), (0, 1)),
+    "film_65536": bytes_of(1, 1, 1, (65536, 1)),
+    "film_65541": bytes_of(1, 1, 1, (5, 1), (65541, 1)),
+    "demand_1000001": bytes_of(1, 1, 1, (1, 0), (2, 1000000), (3, 1000001)),
+    "film_before_demand": bytes_of(1, 1, 1, (0, 1000001)),
+    "first_fault": bytes_of(1, 1, 1, (1, 1000001), (0, 1)),
+    "repeated_after_0": bytes_of(1, 1, 1, (8, 0), (9, 1), (8, 1)),
+    "split_returns": bytes_of(2, 2, 10, (1, 2), (2, 3), (3, 14)),
+    "bytes_0": b"",
+    "bytes_11": bytes_of(1, 1, 1)[:11],
+    "bytes_11_bad_rack": bytes_of(65, 1, 1)[:11],
+    "bytes_12": bytes_of(1, 1, 1),
+}
+
+# The lengths of the long inputs, which the program makes by the same rule.
+LONG = [12 + 8192, 12 + 8200, 12 + 8203, 12 + 8208, 12 + 8211, 1048576, 12 + 1048576]
+
+# What document 01 prints or says of its cases.
+PRINTED = {
+    "case_b": "(rack 1 2 5)\n(disk 1)\n(left)\n(served 0 0)\n",
+    "case_c": "(rack 2 1 2)\n(disk 1 (2 2))\n(disk 2 (2 1))\n(left (1 1))\n(served 3 1)\n",
+    "case_d": "(rack 1 3 10)\n(disk 1 (1 4) (2 6))\n(left (3 10))\n(served 10 10)\n",
+    "case_e": "(rack 2 2 10)\n(disk 1 (3 4) (2 6))\n(disk 2 (1 3) (2 7))\n(left)\n(served 20 0)\n",
+    "case_f": "(rack 2 2 5)\n(disk 1 (9 5))\n(disk 2 (9 5))\n(left (9 999990))\n(served 10 999990)\n",
+    "case_g": "(rack 1 4 9)\n(disk 1 (1 2) (2 3))\n(left)\n(served 5 0)\n",
+    "case_h": "(rack 1 1 5)\n(disk 1 (2 5))\n(left (7 5))\n(served 5 5)\n",
+    "case_i": "(refused 6 2)\n",
+    "disks_65": "(refused 1)\n",
+    "film_65536": "(refused 4 1)\n",
+    "demand_1000001": "(refused 5 3)\n",
+    "bytes_11": "(refused 2)\n",
+}
+
+
+def main():
+    for name, text in PRINTED.items():
+        assert printed(FILES[name]) == text, name
+    case_a = bytes_of(3, 4, 6, *((film, 1) for film in range(1, 11)), (11, 4), (12, 4))
+    assert case_a == (ROOT / "crates" / "plan" / "stdin").read_bytes()
+    assert printed(case_a) == (ROOT / "crates" / "plan" / "stdout").read_text()
+    data = CRATE / "data"
+    data.mkdir(parents=True, exist_ok=True)
+    out = []
+    for name, content in FILES.items():
+        (data / name).write_bytes(content)
+        out.append(name + "\n" + printed(content))
+    for length in LONG:
+        out.append("long " + str(length) + "\n" + printed(long_input(length)))
+    (CRATE / "stdout").write_text("".join(out))
+
+
+if __name__ == "__main__":
+    main()
