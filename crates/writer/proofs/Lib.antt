@@ -1,0 +1,14 @@
+pub mod Spaces
+pub mod Lists
+pub mod Texts
+pub mod Conjunctions
+pub mod Racks
+pub mod DiskParts
+pub mod Calls
+pub mod DiskLines
+pub mod ServedSum
+pub mod Bounds
+pub mod PlanTexts
+pub mod CallSums
+pub mod Verdicts
+pub mod Promises

@@ -1,0 +1,4 @@
+pub mod Space
+pub mod Call
+pub mod WritePromise
+pub mod Answers

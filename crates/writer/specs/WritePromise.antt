@@ -1,0 +1,44 @@
+-- What `write` promises, as one record: 01's definition of the answer and of the bytes, and the same in 01's own words.
+use Prim.Native.Nat.{ℕ, _≤_, _<_}
+use mathlib.Core.Path.{_≡_}
+use mathlib.Core.Bool.{true, false}
+use mathlib.Core.List.{List}
+use lib.ListN.{length, take, drop}
+use Rattle.placement.specs.Rack.{rackAccepted}
+use Rattle.plan_text.specs.Text.{textOf}
+use Rattle.plan_text.specs.Accepted.{Accepted}
+use Rattle.plan_text.specs.WriteCall.{WriteCall, WriteNumbers, planOf, roomStated, wellFormedCall, writing, spaceAfter}
+
+-- N, k or L is outside its range.
+abbrev pub RackRefused : WriteCall → Type 0
+RackRefused c = rackAccepted (c .disks) (c .slots) (c .streams) ≡ false
+
+-- N, k and L are in range.
+abbrev pub RackHolds : WriteCall → Type 0
+RackHolds c = rackAccepted (c .disks) (c .slots) (c .streams) ≡ true
+
+-- The bytes of the plan's text.
+abbrev pub textHeld : WriteCall → List ℕ
+textHeld c = textOf (planOf c)
+
+-- `entry` and `exit` are the bytes of the lent space before and after the call.
+pub record WritePromise (call : WriteCall) (entry exit : List ℕ) (answer : WriteNumbers) : Type 0 where
+  -- the answer and the bytes are those of the definition
+  pub numbers : answer ≡ writing call entry
+  pub bytes : exit ≡ spaceAfter call entry
+  -- the first refusal that applies is given, and none otherwise
+  pub refusesRack : RackRefused call → answer .refusal ≡ 1
+  pub refusesTables : RackHolds call → roomStated call ≡ false → answer .refusal ≡ 7
+  pub refusesPlan : RackHolds call → roomStated call ≡ true → wellFormedCall call ≡ false → answer .refusal ≡ 10
+  pub refusesSpace : RackHolds call → roomStated call ≡ true → wellFormedCall call ≡ true → length entry < length (textHeld call) → answer .refusal ≡ 11
+  pub writes : RackHolds call → roomStated call ≡ true → wellFormedCall call ≡ true → length (textHeld call) ≤ length entry → answer .refusal ≡ 0
+  -- a refusal gives zero for the rest and changes no byte
+  pub noSecond : answer .second ≡ 0
+  pub noLength : 1 ≤ answer .refusal → answer .length ≡ 0
+  pub noByte : 1 ≤ answer .refusal → exit ≡ entry
+  -- without one the tables hold a well-formed plan, the first bytes are its text, and the bytes after the text are untouched
+  pub formed : answer .refusal ≡ 0 → wellFormedCall call ≡ true
+  pub textLength : answer .refusal ≡ 0 → answer .length ≡ length (textHeld call)
+  pub text : answer .refusal ≡ 0 → take (answer .length) exit ≡ textHeld call
+  pub accepted : answer .refusal ≡ 0 → Accepted (take (answer .length) exit)
+  pub after : answer .refusal ≡ 0 → drop (answer .length) exit ≡ drop (answer .length) entry
