@@ -7,9 +7,8 @@ again. WHAT, PLACE and VALUE say what is done to the tables or to the text.
 """
 import os
 import re
-import sys
 
-HERE = os.path.join(os.path.dirname(os.path.abspath(__file__)), "..", "crates", "text_check", "data")
+DATA = os.path.join(os.path.dirname(os.path.abspath(__file__)), "..", "crates", "text_check", "data")
 
 # What is done to the tables that a case lends: nothing; a place of a table set; a number of the rack or the number of left
 # films set; a table lent with fewer places.
@@ -54,8 +53,8 @@ class Cases:
         self.parts.append(head.encode() + text + b"\n")
 
     def write(self, name):
-        os.makedirs(HERE, exist_ok=True)
-        with open(os.path.join(HERE, name), "wb") as f:
+        os.makedirs(DATA, exist_ok=True)
+        with open(os.path.join(DATA, name), "wb") as f:
             f.write(b"".join(self.parts))
 
 

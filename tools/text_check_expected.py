@@ -8,7 +8,6 @@ Usage: python3 tools/text_check_expected.py > crates/text_check/stdout
 """
 import os
 import re
-import sys
 
 DATA = os.path.join(os.path.dirname(os.path.abspath(__file__)), "..", "crates", "text_check", "data")
 
