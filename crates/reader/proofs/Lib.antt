@@ -1,0 +1,14 @@
+pub mod Classes
+pub mod Pieces
+pub mod Bytes
+pub mod PairLists
+pub mod Lines
+pub mod Padding
+pub mod DiskTables
+pub mod DiskReading
+pub mod DiskSteps
+pub mod TailReading
+pub mod PlanReading
+pub mod Fronts
+pub mod Verdicts
+pub mod Calls

@@ -1,0 +1,173 @@
+-- Laws of one pair, and of pairs read one after the other into two slices.
+use mathlib.Core.Path.{_≡_, refl, sym, ap, _∙_, subst}
+use mathlib.Core.Bool.{Bool, true, false, cond}
+use mathlib.Core.List.{List, [], _∷_, _++_, append-assoc, append-nil}
+use Prim.Native.Nat.{ℕ, zero, suc, _+_, _-_, _≤_, _<_}
+use native.Mathlib.Omega.{arith}
+use native.Mathlib.Numerals.{add-one}
+use lib.Dec.{eqb}
+use lib.ListN.{length, take, drop, set, length-take}
+use lib.Seq.{take-suc-set, drop-set-lt, drop-drop}
+use Rattle.placement.specs.Items.{Item, item}
+use Rattle.placement.specs.Held.{entries}
+use Rattle.plan_text.specs.Text.{space, opened, closed}
+use Rattle.plan_text.specs.Parse.{Parse, parsed, unparsed, next, byte, number, pair, endOr, pairs}
+use Rattle.plan_text.specs.Capped.{saturated}
+use Rattle.plan_text.proofs.Pieces.{unparsed-parsed, byte-sound}
+use Rattle.reader.specs.declared.cursor.Cursor.{Cursor}
+use Rattle.reader.specs.declared.number.Number.{Number}
+use Rattle.reader.specs.Cursor.{place, valued, numberOf}
+use Rattle.reader.specs.Pairs.{front}
+use Rattle.reader.proofs.Pieces.{next-assoc, next-same, piece, piece-valued, going}
+
+-- One pair, piece by piece.
+pub pair-read :
+    (text : List ℕ) (c a b e : Cursor) (f v : Number)
+    → place text a ≡ next (place text c) (λ u t. byte opened t)
+    → numberOf text f ≡ next (place text a) (λ u t. number saturated t)
+    → place text b ≡ next (place text (f .after)) (λ u t. byte space t)
+    → numberOf text v ≡ next (place text b) (λ u t. number saturated t)
+    → place text e ≡ next (place text (v .after)) (λ u t. byte closed t)
+    → valued (item (f .value) (v .value)) text e ≡ next (place text c) (λ u t. pair saturated t)
+pair-read text c a b e f v h₁ h₂ h₃ h₄ h₅ =
+    piece (place text e) (place text (v .after)) (byte closed) (λ t. parsed (item (f .value) (v .value)) t) h₅
+    ∙ piece-valued (v .value) (place text (v .after)) (place text b) (number saturated)
+    (λ n t. next (byte closed t) (λ u s. parsed (item (f .value) n) s)) h₄
+    ∙ piece (place text b) (place text (f .after)) (byte space)
+    (λ t. next (number saturated t) (λ n t. next (byte closed t) (λ u s. parsed (item (f .value) n) s))) h₃
+    ∙ piece-valued (f .value) (place text (f .after)) (place text a) (number saturated)
+    (λ m t. next (byte space t) (λ u s. next (number saturated s) (λ n t. next (byte closed t) (λ u s. parsed (item m n) s)))) h₂
+    ∙ piece (place text a) (place text c) (byte opened)
+    (λ t. next (number saturated t) (λ m t. next (byte space t) (λ u s. next (number saturated s) (λ n t. next (byte closed t) (λ u s. parsed (item m n) s))))) h₁
+
+-- The closing bracket, where no pair follows.
+abbrev pub ending : List ℕ → Parse (List Item)
+ending t = next (byte closed t) (λ u s. parsed [] s)
+
+-- One byte by its test.
+abbrev tested : Bool → List ℕ → Parse (Unit {0})
+tested b bs = cond b (parsed tt bs) unparsed
+
+abbrev closing : Parse (Unit {0}) → Parse (List Item)
+closing p = next p (λ u s. parsed [] s)
+
+abbrev stuck : Parse (List Item)
+stuck = unparsed
+
+-- With no place left, only the end follows.
+pub pairs-none : (t : List ℕ) → pairs saturated 0 t ≡ ending t
+pairs-none [] = refl
+pairs-none (b ∷ bs) = go (eqb b closed) (eqb b space)
+  where
+    go : (x y : Bool) → cond x (parsed [] bs) (cond y stuck stuck) ≡ closing (tested x bs)
+    go true y = refl
+    go false true = refl
+    go false false = refl
+
+end-only : (more : List ℕ → Parse (List Item)) (t : List ℕ) → byte space t ≡ unparsed → endOr more t ≡ ending t
+end-only more [] e = refl
+end-only more (b ∷ bs) e = go (eqb b closed) (eqb b space) e
+  where
+    go :
+        (x y : Bool) → tested y bs ≡ unparsed → cond x (parsed [] bs) (cond y (more bs) unparsed) ≡ closing (tested x bs)
+    go true y e = refl
+    go false true e = unparsed-parsed (sym e)
+    go false false e = refl
+
+-- Where no space follows, only the end does.
+pub pairs-last :
+    (m : ℕ) (p : Parse (Unit {0})) → next p (λ u t. byte space t) ≡ unparsed
+    → next p (λ u t. pairs saturated m t) ≡ next p (λ u t. ending t)
+pairs-last zero (parsed tt t) e = end-only (λ s. unparsed) t e
+pairs-last (suc m) (parsed tt t) e =
+    end-only (λ s. next (pair saturated s) (λ x after. next (pairs saturated m after) (λ xs end. parsed (x ∷ xs) end))) t e
+pairs-last m unparsed e = refl
+
+-- Where a space follows, a pair and more pairs do.
+pub pairs-more :
+    (m : ℕ) (p : Parse (Unit {0})) (s : List ℕ) → next p (λ u t. byte space t) ≡ parsed tt s
+    → next p (λ u t. pairs saturated (suc m) t)
+    ≡ next (pair saturated s) (λ x after. next (pairs saturated m after) (λ xs end. parsed (x ∷ xs) end))
+pairs-more m (parsed tt t) s e = ap (λ (l : List ℕ). pairs saturated (suc m) l) (byte-sound space t s e)
+pairs-more m unparsed s e = unparsed-parsed e
+
+-- The pairs so far, before what the rest reads.
+abbrev pub readsOn : List Item → ℕ → Parse (Unit {0}) → Parse (List Item)
+readsOn before m p = next p (λ u t. next (pairs saturated m t) (λ xs end. parsed (before ++ xs) end))
+
+pub readsOn-start : (m : ℕ) (p : Parse (Unit {0})) → readsOn [] m p ≡ next p (λ u t. pairs saturated m t)
+readsOn-start m p =
+    next-same p (λ u t. next (pairs saturated m t) (λ xs end. parsed xs end)) (λ u t. pairs saturated m t) (λ u t. same (pairs saturated m t))
+  where
+    same : (q : Parse (List Item)) → next q (λ xs end. parsed xs end) ≡ q
+    same (parsed xs end) = refl
+    same unparsed = refl
+
+-- One pair more.
+pub readsOn-more :
+    (before : List Item) (m : ℕ) (x : Item) (p q r : Parse (Unit {0})) (s : List ℕ)
+    → q ≡ parsed tt s → q ≡ next p (λ u t. byte space t) → next r (λ u t. parsed x t) ≡ next q (λ u t. pair saturated t)
+    → readsOn (before ++ (x ∷ [])) m r ≡ readsOn before (suc m) p
+readsOn-more before m x p q r s here spaced read =
+    next-same r
+    (λ u t. next (pairs saturated m t) (λ xs end. parsed ((before ++ (x ∷ [])) ++ xs) end))
+    (λ u t. next (pairs saturated m t) (λ xs end. parsed (before ++ (x ∷ xs)) end))
+    (λ u t.
+    next-same (pairs saturated m t)
+    (λ xs end. parsed ((before ++ (x ∷ [])) ++ xs) end)
+    (λ xs end. parsed (before ++ (x ∷ xs)) end)
+    (λ xs end. ap (λ (l : List Item). parsed l end) (append-assoc before (x ∷ []) xs)))
+    ∙ piece-valued x r q (pair saturated) (λ y t. next (pairs saturated m t) (λ xs end. parsed (before ++ (y ∷ xs)) end)) read
+    ∙ ap (λ (z : Parse (Unit {0})). next z (λ u t. next (pair saturated t) (λ y t. next (pairs saturated m t) (λ xs end. parsed (before ++ (y ∷ xs)) end)))) here
+    ∙ next-same (pair saturated s)
+    (λ y t. next (pairs saturated m t) (λ xs end. parsed (before ++ (y ∷ xs)) end))
+    (λ y t. next (next (pairs saturated m t) (λ xs end. parsed (y ∷ xs) end)) (λ xs end. parsed (before ++ xs) end))
+    (λ y t. sym (next-assoc (pairs saturated m t) (λ xs end. parsed (y ∷ xs) end) (λ xs end. parsed (before ++ xs) end)))
+    ∙ sym
+    (next-assoc (pair saturated s)
+    (λ y t. next (pairs saturated m t) (λ xs end. parsed (y ∷ xs) end))
+    (λ xs end. parsed (before ++ xs) end))
+    ∙ ap (λ (z : Parse (List Item)). next z (λ xs end. parsed (before ++ xs) end)) (sym (pairs-more m p s (sym spaced ∙ here)))
+    ∙ next-assoc p (λ u t. pairs saturated (suc m) t) (λ xs end. parsed (before ++ xs) end)
+
+-- The closing bracket ends the pairs, where no place is left or no space follows.
+pub readsOn-end :
+    (before : List Item) (m : ℕ) (p q : Parse (Unit {0})) → next p (λ u t. pairs saturated m t) ≡ next p (λ u t. ending t)
+    → q ≡ next p (λ u t. byte closed t) → next q (λ u t. parsed before t) ≡ readsOn before m p
+readsOn-end before m p q last e =
+    piece q p (byte closed) (λ t. parsed before t) e
+    ∙ next-same p
+    (λ u t. next (byte closed t) (λ v s. parsed before s))
+    (λ u t. next (ending t) (λ xs end. parsed (before ++ xs) end))
+    (λ u t.
+    next-same (byte closed t) (λ v s. parsed before s) (λ v s. parsed (before ++ []) s) (λ v s. ap (λ (l : List Item). parsed l s) (sym (append-nil before)))
+    ∙ sym (next-assoc (byte closed t) (λ v s. parsed [] s) (λ xs end. parsed (before ++ xs) end)))
+    ∙ sym (next-assoc p (λ u t. ending t) (λ xs end. parsed (before ++ xs) end))
+    ∙ ap (λ (z : Parse (List Item)). next z (λ xs end. parsed (before ++ xs) end)) (sym last)
+    ∙ next-assoc p (λ u t. pairs saturated m t) (λ xs end. parsed (before ++ xs) end)
+
+entries-append :
+    (fs vs : List ℕ) (f a : ℕ) → length fs ≡ length vs → entries (fs ++ (f ∷ [])) (vs ++ (a ∷ [])) ≡ entries fs vs ++ (item f a ∷ [])
+entries-append [] [] f a h = refl
+entries-append [] (y ∷ vs) f a h = absurd (omega arith)
+entries-append (x ∷ fs) [] f a h = absurd (omega arith)
+entries-append (x ∷ fs) (y ∷ vs) f a h = ap (λ (l : List Item). item x y ∷ l) (entries-append fs vs f a (omega arith))
+
+-- One entry more at the front of two slices.
+pub front-more :
+    (films amounts : List ℕ) (n f a : ℕ) → n < length films → n < length amounts
+    → front (n + 1) (set films n f) (set amounts n a) ≡ front n films amounts ++ (item f a ∷ [])
+front-more films amounts n f a g h =
+    ap (λ (m : ℕ). front m (set films n f) (set amounts n a)) (add-one n)
+    ∙ ap (λ (l : List ℕ). entries l (take (suc n) (set amounts n a))) (take-suc-set films n f g)
+    ∙ ap (λ (l : List ℕ). entries (take n films ++ (f ∷ [])) l) (take-suc-set amounts n a h)
+    ∙ entries-append (take n films) (take n amounts) f a (omega (arith, length-take n films, length-take n amounts))
+
+-- The places behind the next one are as before.
+pub kept-more :
+    (now before : List ℕ) (n x : ℕ) → drop n now ≡ drop n before → drop (n + 1) (set now n x) ≡ drop (n + 1) before
+kept-more now before n x e =
+    drop-set-lt (n + 1) now n x (omega arith)
+    ∙ sym (drop-drop 1 n now)
+    ∙ ap (λ (l : List ℕ). drop 1 l) e
+    ∙ drop-drop 1 n before

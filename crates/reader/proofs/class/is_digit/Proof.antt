@@ -1,0 +1,19 @@
+-- `reader::class::is_digit` meets its contract: the class of the byte is that of digits where the byte is one.
+use borrow.Author.Needs.{needs}
+use mathlib.Core.Path.{ap, _∙_}
+use Rattle.reader.specs.Class.{digital}
+use Rattle.reader.proofs.Classes.{digital-class}
+use Rattle.reader.proofs.class.is_digit.Statement.{statement}
+use Rattle.reader.proofs.class.is_digit.Tie as tie
+
+class-of-requires : tie.Need-class-of-requires
+class-of-requires c κs = search needs
+
+digit-class-requires : tie.Need-digit-class-requires
+digit-class-requires c κs = search needs
+
+returns : tie.Need-returns
+returns c = c .digit-class .ensures ∙ ap digital (c .before .class-of .ensures) ∙ digital-class (c .before .before .args .byte)
+
+pub is-digit-spec : {M : Type 1} → statement M
+is-digit-spec = tie.close (tie.spec class-of-requires digit-class-requires returns)

@@ -1,0 +1,20 @@
+-- `reader::line::end_line` meets its contract: a line feed, then the test.
+use borrow.Author.Needs.{needs}
+use Rattle.reader.proofs.Lines.{line-end}
+use Rattle.reader.proofs.line.end_line.Statement.{statement}
+use Rattle.reader.proofs.line.end_line.Tie as tie
+
+eat-requires : tie.Need-eat-requires
+eat-requires c κs = search needs
+
+provided-requires : tie.Need-provided-requires
+provided-requires c κs = search needs
+
+returns : tie.Need-returns
+returns c =
+    let a = c .before .before .before .args in
+    line-end (a .text .now) (a .cursor) (c .before .eat .result) (c .provided .result) (a .test) (c .before .eat .ensures)
+    (c .provided .ensures .0) (c .provided .ensures .1)
+
+pub end-line-spec : {M : Type 1} → statement M
+end-line-spec = tie.close (tie.spec eat-requires provided-requires returns)

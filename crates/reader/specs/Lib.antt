@@ -1,0 +1,10 @@
+pub mod Class
+pub mod Cursor
+pub mod Pairs
+pub mod Line
+pub mod Disks
+pub mod Tail
+pub mod Answers
+pub mod Pass
+pub mod Stored
+pub mod Promise

@@ -1,0 +1,38 @@
+-- What the lines of a text are, where a cursor stands behind them.
+use Prim.Native.Nat.{ℕ, _≤_}
+use mathlib.Core.Path.{_≡_}
+use mathlib.Core.Bool.{Bool, true, cond}
+use mathlib.Core.List.{List}
+use lib.ListN.{length}
+use Rattle.placement.specs.Items.{Item, total}
+use Rattle.plan_text.specs.Text.{lineFeed}
+use Rattle.plan_text.specs.Parse.{Parse, parsed, unparsed, next, byte}
+use Rattle.plan_text.specs.Reading.{Sizes, line, pairsBody}
+use Rattle.plan_text.specs.Capped.{saturated}
+use Rattle.placement.specs.declared.Rack.{Rack}
+use Rattle.reader.specs.declared.cursor.Cursor.{Cursor}
+use Rattle.reader.specs.declared.line.RackLine.{RackLine}
+use Rattle.reader.specs.declared.line.PairsLine.{PairsLine}
+use Rattle.reader.specs.Cursor.{place, valued}
+use Rattle.reader.specs.Pairs.{front, Stored}
+
+-- A line feed, and the test of the line.
+abbrev pub lineEnd : Bool → List ℕ → Parse (Unit {0})
+lineEnd test text = next (byte lineFeed text) (λ u t. cond test (parsed tt t) unparsed)
+
+-- A rack's three numbers.
+abbrev pub sizes : Rack → Sizes
+sizes rack = record { disks = rack .disks; slots = rack .slots .0; streams = rack .streams .0 }
+
+abbrev pub sizesOf : List ℕ → RackLine → Parse Sizes
+sizesOf text r = valued (sizes (r .rack)) text (r .after)
+
+-- A line of pairs behind a head, as many as there are places, with a test of them and their sum.
+pub record LineRead (head : List ℕ) (test : List Item → Bool) (text : List ℕ) (cursor : Cursor)
+    (films amounts films′ amounts′ : List ℕ) (r : PairsLine) : Type 0 where
+  pub reads :
+      valued (front (r .count) films′ amounts′) text (r .after)
+      ≡ next (place text cursor) (λ u t. line (pairsBody saturated head (length films)) test t)
+  pub stored : Stored (r .count) films amounts films′ amounts′
+  pub summed : r .sum ≡ total (front (r .count) films′ amounts′)
+  pub passed : r .after .fits ≡ true → test (front (r .count) films′ amounts′) ≡ true
