@@ -1,0 +1,411 @@
+#!/usr/bin/env python3
+"""Makes the cases of crates/text_check/data from document 01: texts to read, tables to write, texts to damage byte by byte.
+
+A case is a line `LABEL GIVEN TOTAL FILL WHAT PLACE VALUE`, then GIVEN bytes and a line feed. The text is the bytes given, and
+after them as many bytes FILL as make TOTAL. With FILL + 256 no bytes are given, and those of the last case that gave some serve
+again. WHAT, PLACE and VALUE say what is done to the tables or to the text.
+"""
+import os
+import re
+
+DATA = os.path.join(os.path.dirname(os.path.abspath(__file__)), "..", "crates", "text_check", "data")
+
+# What is done to the tables that a case lends: nothing; a place of a table set; a number of the rack or the number of left
+# films set; a table lent with fewer places.
+NOTHING = 0
+SET_FILM, SET_VIEWERS, SET_COUNT, SET_LEFT_FILM, SET_LEFT_AMOUNT = 1, 2, 3, 4, 5
+SET_DISKS, SET_SLOTS, SET_STREAMS, SET_LEFT = 6, 7, 8, 9
+LEND_FILMS, LEND_VIEWERS, LEND_COUNTS, LEND_LEFT_FILMS, LEND_LEFT_AMOUNTS, LEND_SPACE = 11, 12, 13, 14, 15, 16
+# A byte of the text set.
+SET_BYTE = 17
+
+CASE_A = b"""(rack 3 4 6)
+(disk 1 (8 1) (9 1) (10 1) (11 3))
+(disk 2 (6 1) (7 1) (11 1) (12 3))
+(disk 3 (3 1) (4 1) (5 1) (12 1))
+(left (1 1) (2 1))
+(served 16 2)
+"""
+SMALL = b"(rack 1 2 5)\n(disk 1 (7 4))\n(left (3 9))\n(served 4 9)\n"
+EMPTY = b"(rack 2 1 2)\n(disk 1)\n(disk 2)\n(left)\n(served 0 0)\n"
+MIXED = (b"(rack 3 2 65535)\n(disk 1 (65535 65534) (1 1))\n(disk 2)\n(disk 3 (100 90))\n"
+         b"(left (1 1000000) (100 10) (65535 999999))\n(served 65625 2000009)\n")
+
+
+class Cases:
+    """One file of cases."""
+
+    def __init__(self):
+        self.parts = []
+        self.labels = set()
+        self.last = None
+
+    def add(self, label, text, total=None, fill=0, what=NOTHING, place=0, value=0):
+        assert re.fullmatch(r"[a-z0-9_]+", label), label
+        assert label not in self.labels, label
+        self.labels.add(label)
+        total = len(text) if total is None else total
+        if text == self.last:
+            text, fill = b"", fill + 256
+        elif text:
+            self.last = text
+        head = "%s %d %d %d %d %d %d\n" % (label, len(text), total, fill, what, place, value)
+        self.parts.append(head.encode() + text + b"\n")
+
+    def write(self, name):
+        os.makedirs(DATA, exist_ok=True)
+        with open(os.path.join(DATA, name), "wb") as f:
+            f.write(b"".join(self.parts))
+
+
+def pairs(entries):
+    return "".join(" (%d %d)" % p for p in entries)
+
+
+def text_of(disks, slots, streams, copies, left, served=None, unserved=None):
+    """The text of a plan by 01's form, whether or not the plan is well formed; copies maps a disk to its pairs."""
+    lines = ["(rack %d %d %d)" % (disks, slots, streams)]
+    for d in range(1, disks + 1):
+        lines.append("(disk %d%s)" % (d, pairs(copies.get(d, []))))
+    lines.append("(left%s)" % pairs(left))
+    s = sum(v for c in copies.values() for _, v in c) if served is None else served
+    u = sum(a for _, a in left) if unserved is None else unserved
+    lines.append("(served %d %d)" % (s, u))
+    return ("\n".join(lines) + "\n").encode()
+
+
+def largest():
+    """The longest text of a well-formed plan: 43,885 bytes."""
+    # 32 viewers of most digits whose sum is at most 65,535: three of five digits, the others of four.
+    viewers = [16535, 10000, 10000] + [1000] * 29
+    copies = {d: list(zip(range(65535 - 31, 65536), viewers)) for d in range(1, 65)}
+    left = [(f, 1000000) for f in range(65535 - 1023, 65536)]
+    return text_of(64, 32, 65535, copies, left)
+
+
+# ---- every line kind, damaged in every way that 01 names ----
+
+def damages(line):
+    """Damaged forms of one line, without its line feed: label and bytes."""
+    out = []
+    words = [m.start() for m in re.finditer(rb"[a-z]+", line)]
+    numbers = [(m.start(), m.end()) for m in re.finditer(rb"[0-9]+", line)]
+    spaces = [i for i in range(len(line)) if line[i] == 32]
+    opens = [i for i in range(len(line)) if line[i] == 40]
+    closes = [i for i in range(len(line)) if line[i] == 41]
+    for n, (a, e) in enumerate(numbers, 1):
+        out.append(("leading_zero_%d" % n, line[:a] + b"0" + line[a:]))
+        out.append(("leading_zeros_%d" % n, line[:a] + b"0000000000" + line[a:]))
+        out.append(("zero_%d" % n, line[:a] + b"0" + line[e:]))
+        out.append(("two_zeros_%d" % n, line[:a] + b"00" + line[e:]))
+        out.append(("no_digits_%d" % n, line[:a] + line[e:]))
+        out.append(("no_number_%d" % n, line[:a - 1] + line[e:]))
+        out.append(("plus_%d" % n, line[:a] + b"+" + line[a:]))
+        out.append(("minus_%d" % n, line[:a] + b"-" + line[a:]))
+        out.append(("letter_%d" % n, line[:a] + b"a" + line[e:]))
+        out.append(("letter_after_%d" % n, line[:e] + b"a" + line[e:]))
+        out.append(("capital_%d" % n, line[:a] + b"A" + line[e:]))
+        out.append(("comma_%d" % n, line[:a] + b"1,000" + line[e:]))
+        out.append(("point_%d" % n, line[:e] + b".0" + line[e:]))
+        out.append(("twice_%d" % n, line[:e] + b" " + line[a:]))
+        out.append(("digit_more_%d" % n, line[:e] + b"0" + line[e:]))
+        out.append(("bracketed_%d" % n, line[:a] + b"(" + line[a:e] + b")" + line[e:]))
+        for bits in (8, 16, 32, 64):
+            wrapped = b"%d" % (int(line[a:e]) + 2 ** bits)
+            out.append(("plus_2_to_%d_at_%d" % (bits, n), line[:a] + wrapped + line[e:]))
+    for n, i in enumerate(spaces, 1):
+        out.append(("two_spaces_%d" % n, line[:i] + b" " + line[i:]))
+        out.append(("no_space_%d" % n, line[:i] + line[i + 1:]))
+        out.append(("tab_%d" % n, line[:i] + b"\t" + line[i + 1:]))
+        out.append(("line_feed_%d" % n, line[:i] + b"\n" + line[i + 1:]))
+        out.append(("return_%d" % n, line[:i] + b"\r" + line[i + 1:]))
+        out.append(("no_break_space_%d" % n, line[:i] + b"\xa0" + line[i + 1:]))
+    for n, i in enumerate(opens, 1):
+        out.append(("no_open_%d" % n, line[:i] + line[i + 1:]))
+        out.append(("two_opens_%d" % n, line[:i] + b"(" + line[i:]))
+        out.append(("square_open_%d" % n, line[:i] + b"[" + line[i + 1:]))
+        out.append(("close_for_open_%d" % n, line[:i] + b")" + line[i + 1:]))
+        out.append(("space_after_open_%d" % n, line[:i + 1] + b" " + line[i + 1:]))
+    for n, i in enumerate(closes, 1):
+        out.append(("no_close_%d" % n, line[:i] + line[i + 1:]))
+        out.append(("two_closes_%d" % n, line[:i] + b")" + line[i:]))
+        out.append(("square_close_%d" % n, line[:i] + b"]" + line[i + 1:]))
+        out.append(("open_for_close_%d" % n, line[:i] + b"(" + line[i + 1:]))
+        out.append(("space_before_close_%d" % n, line[:i] + b" " + line[i:]))
+    i = words[0]
+    out.append(("capital_word", line[:i] + bytes([line[i] - 32]) + line[i + 1:]))
+    out.append(("capital_last", re.sub(rb"[a-z](?=[^a-z])", lambda m: m.group().upper(), line, count=1)))
+    out.append(("other_word", line[:i] + b"film" + line[i + 4:]))
+    out.append(("letter_fewer", line[:i] + line[i + 1:]))
+    out.append(("letter_more", line[:i] + line[i:i + 1] + line[i:]))
+    out.append(("no_word", re.sub(rb"[a-z]+", b"", line, count=1)))
+    out.append(("space_before", b" " + line))
+    out.append(("space_after", line + b" "))
+    out.append(("tab_after", line + b"\t"))
+    out.append(("return_after", line + b"\r"))
+    out.append(("comment_after", line + b" ;"))
+    out.append(("blank_before", b"\n" + line))
+    out.append(("blank_after", line + b"\n"))
+    out.append(("empty_pair_last", line[:-1] + b" ())"))
+    out.append(("pair_of_one_last", line[:-1] + b" (9))"))
+    out.append(("pair_of_three_last", line[:-1] + b" (9 1 1))"))
+    out.append(("pair_last", line[:-1] + b" (9 1))"))
+    out.append(("pair_without_space_last", line[:-1] + b"(9 1))"))
+    out.append(("only_brackets", b"()"))
+    out.append(("refusal", b"(refused 1)"))
+    out.append(("quoted", b'"' + line + b'"'))
+    out.append(("byte_order_mark", b"\xef\xbb\xbf" + line))
+    for b in (0, 13, 47, 58, 96, 123, 127, 128, 255):
+        out.append(("foreign_%d" % b, line[:5] + bytes([b]) + line[5:]))
+    out.append(("foreign_first", b"\0" + line))
+    out.append(("foreign_last", line[:-1] + b"\xff" + line[-1:]))
+    return out
+
+
+def kinds(text):
+    """The lines of a text, each with the name of its kind."""
+    lines = text.split(b"\n")[:-1]
+    return [(re.sub(rb"[^a-z]", b"", line).decode(), line) for line in lines]
+
+
+def lines_file():
+    c = Cases()
+    for name, text in (("case_a", CASE_A), ("small", SMALL), ("empty", EMPTY), ("mixed", MIXED)):
+        c.add(name, text)
+    for name, text in (("small", SMALL), ("empty", EMPTY)):
+        ls = text.split(b"\n")[:-1]
+        for n, (kind, line) in enumerate(kinds(text), 1):
+            base = "%s_%d_%s_" % (name, n, kind)
+            before = b"".join(x + b"\n" for x in ls[:n - 1])
+            after = b"".join(x + b"\n" for x in ls[n:])
+            if name == "small" or name == "empty" and kind in ("disk", "left") and n > 2:
+                for label, damaged in damages(line):
+                    c.add(base + label, before + damaged + b"\n" + after)
+            c.add(base + "missing", before + after)
+            c.add(base + "missing_from_here", before)
+            c.add(base + "twice", before + line + b"\n" + line + b"\n" + after)
+            c.add(base + "unended", before + line)
+            c.add(base + "joined", before + line + after)
+            c.add(base + "cut_inside", before + line[:6])
+            c.add(base + "feed_for_close", before + line[:-1] + b"\n" + after)
+            for m, other in enumerate(ls, 1):
+                if other != line:
+                    c.add(base + "is_line_%d" % m, before + other + b"\n" + after)
+            if after:
+                second = after.split(b"\n")[0]
+                rest = after[len(second) + 1:]
+                c.add(base + "after_the_next", before + second + b"\n" + line + b"\n" + rest)
+        for label, tail in (("byte", b"("), ("feed", b"\n"), ("space", b" "), ("zero", b"\0"), ("foreign", b"\xff"),
+                            ("return", b"\r"), ("line", b"(served 0 0)\n"), ("left", b"(left)\n"), ("text", text)):
+            c.add("%s_then_%s" % (name, label), text + tail)
+    c.add("no_bytes", b"")
+    for label, text in (("feed_only", b"\n"), ("two_feeds", b"\n\n"), ("refused_1", b"(refused 1)\n"),
+                        ("refused_9_1", b"(refused 9 1)\n"), ("zero_byte", b"\0"), ("open_only", b"("),
+                        ("rack_only", b"(rack 1 1 1)\n"), ("rack_unended", b"(rack 1 1 1)"),
+                        ("return_feeds", SMALL.replace(b"\n", b"\r\n")), ("returns", SMALL.replace(b"\n", b"\r")),
+                        ("capitals", SMALL.upper()), ("tabs", SMALL.replace(b" ", b"\t")),
+                        ("one_line", SMALL.replace(b"\n", b" ")), ("wide", SMALL.decode().encode("utf-16-le"))):
+        c.add(label, text)
+    c.write("lines")
+
+
+# ---- numbers at and beyond each limit ----
+
+def limits_file():
+    c = Cases()
+    big = (2 ** 8, 2 ** 16, 2 ** 32 - 1, 2 ** 32, 2 ** 32 + 1, 2 ** 63, 2 ** 64 - 1, 2 ** 64, 2 ** 64 + 1, 10 ** 20, 10 ** 40)
+
+    def one(film=7, viewers=4, left_film=3, amount=9, slots=2, streams=5):
+        return text_of(1, slots, streams, {1: [(film, viewers)]}, [(left_film, amount)])
+
+    for n in (0, 1, 2, 9, 10, 63, 64, 65, 66, 99, 100):
+        c.add("disks_%d" % n, text_of(n, 1, 1, {}, []))
+    for n in big + (2 ** 32 + 64, 2 ** 64 + 64):
+        c.add("disks_%d" % n, text_of(1, 1, 1, {}, []).replace(b"rack 1", b"rack %d" % n))
+    for k in (0, 1, 2, 9, 10, 31, 32, 33, 64) + big + (2 ** 32 + 32, 2 ** 64 + 32):
+        c.add("slots_%d" % k, text_of(1, k, 1, {}, []))
+    for load in (0, 1, 2, 65534, 65535, 65537, 99999, 100000) + big + (2 ** 32 + 65535, 2 ** 64 + 65535):
+        c.add("streams_%d" % load, text_of(1, 1, load, {}, []))
+    for f in (0, 1, 2, 65534, 65535, 65541, 99999, 131071) + big + (2 ** 32 + 7, 2 ** 64 + 7):
+        c.add("film_%d" % f, one(film=f))
+        c.add("left_film_%d" % f, one(left_film=f))
+    for v in (0, 1, 4, 5, 6, 10, 65535) + big + (2 ** 32 + 5, 2 ** 64 + 5):
+        c.add("viewers_%d" % v, one(viewers=v))
+    for v in (65534, 65535, 65536):
+        c.add("viewers_%d_of_65535" % v, one(viewers=v, streams=65535))
+    for a in (0, 1, 2, 999999, 1000000, 1000001, 1000002, 9999999) + big + (2 ** 32 + 9, 2 ** 64 + 9):
+        c.add("amount_%d" % a, one(amount=a))
+    for k in (1, 2, 31, 32):
+        for n in (k - 1, k, k + 1):
+            c.add("copies_%d_of_%d" % (n, k), text_of(1, k, 100, {1: [(f, 1) for f in range(1, n + 1)]}, []))
+    c.add("copies_64_of_32", text_of(1, 32, 100, {1: [(f, 1) for f in range(1, 65)]}, []))
+    for n in (1023, 1024, 1025, 1026, 2048):
+        c.add("left_films_%d" % n, text_of(1, 1, 1, {}, [(f, 1) for f in range(1, n + 1)]))
+    for load, vs in ((5, (2, 3)), (5, (3, 3)), (5, (5, 1)), (5, (1, 5)), (65535, (65534, 1)), (65535, (65535, 1)),
+                     (65535, (2 ** 32 - 1, 2)), (5, (2 ** 32 - 1, 5)), (5, (2 ** 64 - 1, 5)), (5, (2 ** 31, 2 ** 31))):
+        c.add("sum_%d_%d_of_%d" % (vs[0], vs[1], load), text_of(1, 2, load, {1: [(1, vs[0]), (2, vs[1])]}, []))
+    every = [(f, 65535 // 32) for f in range(1, 33)]
+    c.add("sum_of_32_below", text_of(1, 32, 65535, {1: every}, []))
+    c.add("sum_of_32_exact", text_of(1, 32, 65535, {1: every[:-1] + [(32, 65535 - 31 * 2047)]}, []))
+    c.add("sum_of_32_above", text_of(1, 32, 65535, {1: every[:-1] + [(32, 65536 - 31 * 2047)]}, []))
+    for label, films in (("twice", (7, 7)), ("apart", (7, 8, 7)), ("descending", (9, 8, 7)), ("first_and_last", (7, 1, 2, 7))):
+        c.add("copies_film_%s" % label, text_of(1, 4, 9, {1: [(f, 1) for f in films]}, []))
+        c.add("left_films_%s" % label, text_of(1, 4, 9, {}, [(f, 1) for f in films]))
+    c.add("film_on_two_disks_and_left", text_of(2, 1, 9, {1: [(7, 1)], 2: [(7, 2)]}, [(7, 3)]))
+    c.add("left_films_ascending", text_of(1, 4, 9, {}, [(7, 1), (8, 1), (65535, 1)]))
+    c.add("left_films_wrapped", text_of(1, 4, 9, {}, [(7, 1), (2 ** 32 + 8, 1)]))
+    numbers = ((0, 0), (1, 0), (0, 1), (15, 2), (17, 2), (16, 1), (16, 3), (2, 16), (18, 2), (16, 18), (160, 2), (1, 62),
+               (16 + 2 ** 32, 2), (16 + 2 ** 64, 2), (16, 2 + 2 ** 32), (16, 2 + 2 ** 64))
+    for s, u in numbers:
+        c.add("served_%d_%d_of_16_2" % (s, u), CASE_A.replace(b"served 16 2", b"served %d %d" % (s, u)))
+    for d in (0, 2, 3, 9, 10, 11, 64, 65, 100) + big:
+        c.add("disk_%d_for_1" % d, text_of(12, 1, 1, {}, []).replace(b"(disk 1)", b"(disk %d)" % d))
+        c.add("disk_%d_for_12" % d, text_of(12, 1, 1, {}, []).replace(b"(disk 12)", b"(disk %d)" % d))
+    c.add("disk_01_for_1", text_of(12, 1, 1, {}, []).replace(b"(disk 1)", b"(disk 01)"))
+    c.add("disks_one_more", text_of(3, 1, 1, {}, []).replace(b"rack 3", b"rack 2"))
+    c.add("disks_one_fewer", text_of(3, 1, 1, {}, []).replace(b"rack 3", b"rack 4"))
+    for n in (20, 30, 1000):
+        nines = b"9" * n
+        one_zeros = b"1" + b"0" * n
+        for label, digits in (("nines", nines), ("zeros", one_zeros)):
+            for where, old in (("disks", b"rack 1"), ("film", b"((7"), ("amount", b"(3 9"), ("served", b"served 4")):
+                text = SMALL.replace(b"disk 1 (7", b"disk 1 ((7") if where == "film" else SMALL
+                text = text.replace(old, old[:-1] + digits)
+                text = text.replace(b"((", b"(") if where == "film" else text
+                c.add("%s_%d_%s" % (where, n, label), text)
+    c.write("limits")
+
+
+# ---- long texts ----
+
+def long_file():
+    c = Cases()
+    text = largest()
+    assert len(text) == 43885
+    c.add("largest", text)
+    for total in (43886, 65535, 65536, 65537, 65540):
+        c.add("largest_and_spaces_%d" % total, text, total, 32)
+    c.add("largest_unended", text, len(text) - 1)
+    for label, old, new in (("served_one_more", b"(served 4194240 ", b"(served 4194241 "),
+                            ("unserved_other", b" 1024000000)", b" 1024000001)"),
+                            ("left_film_repeated", b"(65534 1000000)", b"(65535 1000000)"),
+                            ("left_amount_leading_zero", b"(65534 1000000)", b"(65534 0000000)"),
+                            ("disk_64_is_65", b"(disk 64 ", b"(disk 65 "),
+                            ("load_exceeded", b" 16535)", b" 16536)"),
+                            ("film_repeated", b"(65505 10000)", b"(65504 10000)")):
+        place = text.index(old) + [a == b for a, b in zip(old, new)].index(False)
+        value = new[place - text.index(old)]
+        c.add("largest_" + label, text, what=SET_BYTE, place=place, value=value)
+    last = text.rindex(b" 16535)") + 5
+    c.add("largest_load_exceeded_last", text, what=SET_BYTE, place=last, value=54)
+    for total in (0, 1, 43885, 65535, 65536, 65537, 65538):
+        c.add("zeros_%d" % total, b"", total, 0)
+        c.add("feeds_%d" % total, b"", total, 10)
+    for total in (65535, 65536, 65537):
+        c.add("small_and_feeds_%d" % total, SMALL, total, 10)
+        c.add("small_and_digits_%d" % total, SMALL, total, 57)
+        c.add("rack_of_digits_%d" % total, b"(rack ", total, 57)
+        c.add("rack_of_zeros_%d" % total, b"(rack ", total, 48)
+        c.add("film_of_digits_%d" % total, b"(rack 1 2 5)\n(disk 1 (", total, 57)
+        c.add("amount_of_zeros_%d" % total, b"(rack 1 2 5)\n(disk 1)\n(left (1 1", total, 48)
+        c.add("served_of_zeros_%d" % total, b"(rack 1 2 5)\n(disk 1)\n(left)\n(served 0", total, 48)
+        c.add("brackets_%d" % total, b"(rack 1 2 5)\n(disk 1 ", total, 40)
+        c.add("letters_%d" % total, b"(", total, 114)
+    c.add("largest_one_film_more", text.replace(b"(left (", b"(left (1 1) ("))
+    c.write("long")
+
+
+# ---- tables too short for reading, and calls of writing ----
+
+def lending_file():
+    c = Cases()
+    for name, text, copies, disks, left in (("case_a", CASE_A, 12, 3, 2), ("small", SMALL, 2, 1, 1), ("empty", EMPTY, 2, 2, 0),
+                                            ("largest", largest(), 2048, 64, 1024)):
+        for table, what, needed in (("films", LEND_FILMS, copies), ("viewers", LEND_VIEWERS, copies),
+                                    ("counts", LEND_COUNTS, disks), ("left_films", LEND_LEFT_FILMS, left),
+                                    ("left_amounts", LEND_LEFT_AMOUNTS, left)):
+            sizes = (needed - 1, needed) if name == "largest" else (0, needed - 1, needed, needed + 1)
+            if name == "largest" and table not in ("films", "left_films"):
+                continue
+            for size in sorted(set(x for x in sizes if x >= 0)):
+                c.add("%s_%s_%d" % (name, table, size), text, what=what, value=size)
+    for table, what in (("films", LEND_FILMS), ("counts", LEND_COUNTS), ("left_films", LEND_LEFT_FILMS)):
+        c.add("nine_before_seven_%s" % table, SMALL.replace(b"served 4", b"served 5"), what=what, value=0)
+        c.add("eight_before_seven_%s" % table, SMALL, 65537, 10, what=what, value=0)
+    c.write("lending")
+
+
+def writing_file():
+    c = Cases()
+    big = (2 ** 16, 2 ** 31, 2 ** 32 - 1)
+
+    def sets(name, text, what, label, place, values):
+        for v in values:
+            c.add("%s_%s_%d_is_%d" % (name, label, place, v), text, what=what, place=place, value=v)
+
+    c.add("case_a", CASE_A)
+    c.add("small", SMALL)
+    c.add("empty", EMPTY)
+    c.add("mixed", MIXED)
+    sets("small", SMALL, SET_DISKS, "disks", 0, (0, 1, 2, 64, 65) + big)
+    sets("small", SMALL, SET_SLOTS, "slots", 0, (0, 1, 2, 3, 32, 33) + big)
+    sets("small", SMALL, SET_STREAMS, "streams", 0, (0, 1, 3, 4, 65535, 65536, 2 ** 32 - 1))
+    sets("empty", EMPTY, SET_SLOTS, "slots", 0, (0, 1, 2, 32, 33))
+    sets("empty", EMPTY, SET_DISKS, "disks", 0, (0, 1, 2, 3, 65))
+    for place in (0, 1, 2):
+        sets("small", SMALL, SET_FILM, "film", place, (0, 1, 7, 65535, 65536, 65543, 2 ** 32 - 1))
+        sets("small", SMALL, SET_VIEWERS, "viewers", place, (0, 1, 5, 6, 65536, 2 ** 32 - 1))
+    for place in (0, 1):
+        sets("small", SMALL, SET_COUNT, "count", place, (0, 1, 2, 3, 32, 33) + big)
+        sets("small", SMALL, SET_LEFT_FILM, "left_film", place, (0, 1, 3, 65535, 65536) + big[1:])
+        sets("small", SMALL, SET_LEFT_AMOUNT, "left_amount", place, (0, 1, 1000000, 1000001) + big[1:])
+    sets("small", SMALL, SET_LEFT, "left", 0, (0, 1, 2, 1024, 1025, 1032, 1033) + big)
+    for place, values in ((0, (9, 8, 7)), (1, (8, 10, 20)), (4, (6, 7, 11)), (11, (3, 4, 12, 65535))):
+        sets("case_a", CASE_A, SET_FILM, "film", place, values)
+    for place, values in ((0, (0, 2, 2 ** 32 - 1)), (3, (1, 3, 4)), (7, (2 ** 32 - 3,)), (11, (0, 1, 2, 3, 4))):
+        sets("case_a", CASE_A, SET_VIEWERS, "viewers", place, values)
+    for place in (0, 1, 2, 3):
+        sets("case_a", CASE_A, SET_COUNT, "count", place, (0, 3, 4, 5, 2 ** 30, 2 ** 32 - 1))
+    sets("case_a", CASE_A, SET_SLOTS, "slots", 0, (1, 3, 4, 5))
+    sets("case_a", CASE_A, SET_STREAMS, "streams", 0, (5, 6, 7))
+    sets("case_a", CASE_A, SET_DISKS, "disks", 0, (1, 2, 4))
+    sets("case_a", CASE_A, SET_LEFT_FILM, "left_film", 0, (1, 2, 3))
+    sets("case_a", CASE_A, SET_LEFT_FILM, "left_film", 1, (0, 1, 2, 65535, 65536))
+    sets("case_a", CASE_A, SET_LEFT, "left", 0, (0, 1, 2, 3))
+    for name, text, copies, disks, left in (("case_a", CASE_A, 12, 3, 2), ("small", SMALL, 2, 1, 1), ("empty", EMPTY, 2, 2, 0)):
+        for table, what, needed in (("films", LEND_FILMS, copies), ("viewers", LEND_VIEWERS, copies),
+                                    ("counts", LEND_COUNTS, disks), ("left_films", LEND_LEFT_FILMS, left),
+                                    ("left_amounts", LEND_LEFT_AMOUNTS, left), ("space", LEND_SPACE, len(text))):
+            for size in sorted(set(x for x in (0, needed - 1, needed, needed + 1) if x >= 0)):
+                c.add("%s_lent_%s_%d" % (name, table, size), text, what=what, value=size)
+    c.add("largest", largest())
+    sets("largest", largest(), SET_VIEWERS, "viewers", 2047, (1001,))
+    sets("largest", largest(), SET_FILM, "film", 2047, (65504,))
+    sets("largest", largest(), SET_LEFT, "left", 0, (1023, 1025))
+    sets("largest", largest(), SET_LEFT_AMOUNT, "left_amount", 1023, (1000001, 1))
+    c.add("largest_lent_space_43884", largest(), what=LEND_SPACE, value=43884)
+    c.add("largest_lent_space_43885", largest(), what=LEND_SPACE, value=43885)
+    c.write("writing")
+
+
+# ---- texts that the program damages byte by byte: PLACE is the step from place to place, VALUE how many bytes are tried ----
+
+def damaged_file():
+    c = Cases()
+    c.add("case_a", CASE_A, place=1, value=255)
+    c.add("small", SMALL, place=1, value=255)
+    c.add("empty", EMPTY, place=1, value=255)
+    c.add("mixed", MIXED, place=1, value=255)
+    c.add("ten_disks", text_of(10, 3, 70, {2: [(65535, 60), (9, 10)], 10: [(10, 1), (11, 1), (12, 1)]}, [(9, 5), (10, 1000000)]),
+          place=1, value=255)
+    c.add("largest", largest(), place=211, value=1)
+    c.write("damaged")
+
+
+if __name__ == "__main__":
+    lines_file()
+    limits_file()
+    long_file()
+    lending_file()
+    writing_file()
+    damaged_file()
