@@ -1,5 +1,5 @@
 -- The whole call: the answer and the tables, by the judgement of the text and the room in the tables.
-use mathlib.Core.Path.{_≡_, refl, sym, ap, _∙_, subst}
+use mathlib.Core.Path.{_≡_, refl, sym, ap, _∙_}
 use mathlib.Core.Bool.{Bool, true, false, cond, _&&_}
 use mathlib.Core.List.{List, [], _∷_, map}
 use mathlib.Core.Logic.{⊎-elim}
@@ -10,35 +10,25 @@ use native.Mathlib.Omega.{arith}
 use borrow.Author.Tests.{leb-true}
 use lib.Dec.{leb}
 use lib.ListN.{length, length-map}
-use Rattle.placement.specs.Items.{Item, filmOf, amountOf}
+use Rattle.placement.specs.Items.{filmOf, amountOf}
 use Rattle.placement.specs.Rack.{rackOf}
-use Rattle.placement.specs.Tables.{Tables, places, written}
+use Rattle.placement.specs.Tables.{Tables, places}
 use Rattle.plan_text.specs.Plan.{Plan, wellFormed}
-use Rattle.plan_text.specs.ReadCall.{Verdict, plan, refused, answerTo, textVerdict, withTables, tablesGiven, roomForPlan, judging, reading, tablesAfterReading, holdingPlan, ReadNumbers}
+use Rattle.plan_text.specs.ReadCall.{Verdict, plan, refused, answerTo, textVerdict, withTables, roomForPlan, judging, holdingPlan, ReadNumbers}
 use Rattle.plan_text.proofs.Choices.{and-left, and-right, cond-true, cond-false}
 use Rattle.plan_text.proofs.Laws.{read-wellFormed}
 use Rattle.reader.specs.declared.PlanRead.{PlanRead}
 use Rattle.reader.specs.declared.ReadAnswer.{ReadAnswer}
 use Rattle.reader.proofs.ReadAnswer.{the-type}
 use Rattle.reader.specs.declared.ReadAnswer.the-variants as answers
-use Rattle.reader.specs.Answers.{numbersOf, refusal, tablesOf}
-use Rattle.reader.specs.Pass.{Judged, Workspace}
-use Rattle.reader.specs.Stored.{Roomy, frontsCopied, frontCopied}
+use Rattle.reader.specs.Answers.{numbersOf, refusal}
+use Rattle.reader.specs.Pass.{Judged}
+use Rattle.reader.specs.Stored.{Roomy, frontsCopied}
 use Rattle.reader.specs.Promise.{ReadPromise}
 use Rattle.reader.proofs.Fronts.{copied-written, tables-same}
-use Rattle.reader.proofs.Verdicts.{Found, found-plan, few-disks, few-places, few-left, disk-count, all-places}
-
--- Both equations, with what the promise says in words.
-promised : (text : List ℕ) (entry exit : Tables) (answer : ReadNumbers) → answer ≡ reading text entry → exit ≡ tablesAfterReading text entry → ReadPromise text entry exit answer
-promised text entry exit answer numbers tables = record { numbers = numbers; tables = tables }
-
--- The verdict decides.
-by-verdict :
-    (text : List ℕ) (entry exit : Tables) (answer : ReadNumbers) (v : Verdict) → withTables entry (textVerdict text) ≡ v
-    → answer ≡ answerTo v → exit ≡ tablesGiven entry v → ReadPromise text entry exit answer
-unfolding reading tablesAfterReading
-by-verdict text entry exit answer v e f g =
-    promised text entry exit answer (f ∙ sym (ap answerTo e)) (g ∙ sym (ap (tablesGiven entry) e))
+use Rattle.reader.proofs.Promises.{by-verdict}
+use Rattle.reader.proofs.Verdicts.{Found, found-plan}
+use Rattle.reader.proofs.PlanSizes.{few-disks, few-places, few-left, disk-count, all-places}
 
 judging-is : (text : List ℕ) → judging text ≡ answerTo (textVerdict text)
 unfolding judging

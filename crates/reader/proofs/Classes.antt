@@ -8,7 +8,6 @@ use borrow.Author.Tests.{le-leb, lt-leb, ne-eqb}
 use lib.Dec.{leb, eqb}
 use lib.ListN.{length, getD}
 use Rattle.plan_text.specs.Parse.{isDigit}
-use Rattle.reader.specs.declared.class.Class.{Class}
 use Rattle.reader.specs.declared.class.Class.the-variants.{Digit, SmallLetter, Bracket, Space, LineFeed, Foreign}
 use Rattle.reader.specs.Class.{between, classOf, digital, foreign, noneForeign}
 

@@ -1,12 +1,11 @@
 -- What a text says of the disks, when some of their lines were read.
-use mathlib.Core.Path.{_≡_, refl, sym, ap, _∙_}
-use mathlib.Core.Bool.{Bool, true, false}
+use mathlib.Core.Path.{_≡_, sym, ap, _∙_}
+use mathlib.Core.Bool.{true, false}
 use mathlib.Core.List.{List, [], _∷_, _++_, append-assoc}
-use Prim.Native.Nat.{ℕ, zero, suc, _+_, _-_, _*_, _≤_, _<_}
+use Prim.Native.Nat.{ℕ, suc, _+_, _-_}
 use native.Mathlib.Omega.{arith}
 use lib.ListN.{length, drop, length-append}
 use Rattle.placement.specs.Items.{Item, total}
-use Rattle.placement.specs.Method.{served}
 use Rattle.plan_text.specs.Parse.{Parse, parsed, unparsed, next}
 use Rattle.plan_text.specs.Text.{diskHead}
 use Rattle.plan_text.specs.Plan.{diskAccepted}

@@ -1,14 +1,14 @@
 -- The tables when one disk more is stored.
 use mathlib.Core.Path.{_≡_, refl, sym, ap, _∙_}
 use mathlib.Core.List.{List, [], _∷_, _++_, map, append-assoc, append-nil}
-use Prim.Native.Nat.{ℕ, zero, suc, _+_, _-_, _*_, _≤_, _<_}
+use Prim.Native.Nat.{ℕ, suc, _+_, _-_, _*_, _≤_, _<_}
 use native.Mathlib.Omega.{arith}
 use native.Mathlib.Nat.{suc-mul}
 use native.Mathlib.Numerals.{add-one}
 use lib.ListN.{length, take, drop, set, replicate, length-append, length-map}
 use borrow.Rule.Slice.PartMut.{putMid}
 use Rattle.placement.specs.Items.{Item, total, filmOf, amountOf}
-use Rattle.placement.specs.Rack.{Disk, disk, rackOf}
+use Rattle.placement.specs.Rack.{rackOf}
 use Rattle.placement.specs.Method.{served}
 use Rattle.placement.specs.Tables.{padded, places, written}
 use Rattle.reader.specs.Pairs.{front, Stored}

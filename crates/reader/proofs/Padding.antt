@@ -1,12 +1,12 @@
 -- Laws of lists that are overwritten from the front, and of the zeros behind.
 use mathlib.Core.Path.{_≡_, refl, sym, ap, _∙_}
 use mathlib.Core.List.{List, [], _∷_, _++_, map, append-assoc}
-use Prim.Native.Nat.{ℕ, zero, suc, _+_, _-_, _*_, _≤_, _<_, min}
+use Prim.Native.Nat.{ℕ, zero, suc, _+_, _-_, _≤_, _<_}
 use native.Mathlib.Omega.{arith}
 use lib.ListN.{length, take, drop, set, replicate, length-append, length-take, length-drop, length-replicate, take-append-drop}
 use lib.Seq.{take-at, drop-at, drop-drop}
 use borrow.Rule.Slice.PartMut.{putMid}
-use Rattle.placement.specs.Items.{Item, item, filmOf, amountOf}
+use Rattle.placement.specs.Items.{filmOf, amountOf}
 use Rattle.placement.specs.Held.{entries}
 use Rattle.placement.specs.Tables.{padded, written}
 use Rattle.reader.specs.Pairs.{front}

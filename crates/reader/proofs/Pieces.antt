@@ -9,7 +9,7 @@ use lib.Seq.{drop-cons}
 use Rattle.plan_text.specs.Parse.{Parse, parsed, unparsed, next, byte, literal}
 use Rattle.plan_text.proofs.Choices.{cond-true, cond-false}
 use Rattle.reader.specs.declared.cursor.Cursor.{Cursor}
-use Rattle.reader.specs.Cursor.{place, valued}
+use Rattle.reader.specs.Cursor.{place}
 
 -- The text from a position on is the byte there and the text behind it.
 pub from : (text : List ℕ) (at : ℕ) → at < length text → drop at text ≡ getD text at 0 ∷ drop (at + 1) text

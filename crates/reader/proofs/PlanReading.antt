@@ -1,78 +1,33 @@
 -- What a whole text says, by what its lines are.
-use mathlib.Core.Path.{_≡_, refl, sym, ap, _∙_, subst}
-use mathlib.Core.Bool.{Bool, true, false, cond}
-use mathlib.Core.List.{List, [], _∷_, _++_, map, append-nil}
-use Prim.Native.Nat.{ℕ, zero, suc, _+_, _≤_}
+use mathlib.Core.Path.{_≡_, refl, sym, ap, _∙_}
+use mathlib.Core.Bool.{true, false}
+use mathlib.Core.List.{List, _++_, map, append-nil}
+use Prim.Native.Nat.{ℕ, suc, _+_, _≤_}
 use native.Mathlib.Omega.{arith}
 use lib.ListN.{length, take, drop, length-map, take-append-drop}
 use Rattle.placement.specs.Items.{Item, total, filmOf, amountOf}
-use Rattle.placement.specs.Rack.{rackOf}
 use Rattle.placement.specs.Method.{served}
-use Rattle.placement.specs.Tables.{Tables, places, written}
-use Rattle.placement.specs.declared.Rack.{Rack}
-use Rattle.plan_text.specs.Parse.{Parse, parsed, unparsed, next, byte}
-use Rattle.plan_text.specs.Text.{lineFeed}
-use Rattle.plan_text.specs.Plan.{Plan, servedOf, unservedOf}
-use Rattle.plan_text.specs.Reading.{Reading, whole, refusedAfter, Sizes, Tail, line, lineThen, joined, withSizes, rackBody, sizesAccepted, readDisks, planReadWith, planRead}
-use Rattle.plan_text.specs.Capped.{saturated, planReadCapped}
-use Rattle.plan_text.specs.ReadCall.{Verdict, plan, refused, verdictOf, answerTo, ReadNumbers, holdingPlan}
-use Rattle.plan_text.proofs.Pieces.{next-parsed, chosen-parsed, parsed-value}
-use Rattle.plan_text.proofs.Laws.{capped-read}
-use Rattle.reader.specs.declared.cursor.Cursor.{Cursor}
+use Rattle.placement.specs.Tables.{Tables, written}
+use Rattle.plan_text.specs.Parse.{Parse, parsed, next}
+use Rattle.plan_text.specs.Plan.{Plan}
+use Rattle.plan_text.specs.Reading.{Reading, whole, Sizes, Tail, line, lineThen, joined, withSizes, rackBody, sizesAccepted, readDisks, planRead}
+use Rattle.plan_text.specs.Capped.{saturated}
+use Rattle.plan_text.specs.ReadCall.{verdictOf, answerTo, ReadNumbers, holdingPlan}
 use Rattle.reader.specs.declared.line.RackLine.{RackLine}
 use Rattle.reader.specs.declared.disks.DiskLines.{DiskLines}
 use Rattle.reader.specs.declared.tail.TailLines.{TailLines}
-use Rattle.reader.specs.declared.PlanRead.{PlanRead}
 use Rattle.reader.specs.declared.ReadAnswer.{ReadAnswer}
 use Rattle.reader.specs.declared.ReadAnswer.the-variants as answers
-use Rattle.reader.specs.Cursor.{place, valued}
-use Rattle.reader.specs.Pairs.{front, Stored}
+use Rattle.reader.specs.Cursor.{place}
+use Rattle.reader.specs.Pairs.{front}
 use Rattle.reader.specs.Line.{sizes, sizesOf}
-use Rattle.reader.specs.Disks.{DisksFit, DisksRead, Filled, prefixed, disksAt}
+use Rattle.reader.specs.Disks.{DisksFit, DisksRead, prefixed, disksAt}
 use Rattle.reader.specs.Tail.{TailRead, tailAt}
-use Rattle.reader.specs.Answers.{numbersOf, refusal, tablesOf}
-use Rattle.reader.specs.Pass.{Workspace, Passed}
+use Rattle.reader.specs.Answers.{numbersOf, tablesOf}
+use Rattle.reader.specs.Pass.{Passed}
 use Rattle.reader.proofs.DiskReading.{line-parsed, line-refused}
 use Rattle.reader.proofs.Padding.{front-films, front-amounts, front-length}
-
--- A line that was read passed its test.
-line-passed :
-    {A : Type 0} (body : List ℕ → Parse A) (test : A → Bool) (t : List ℕ) (a : A) (after : List ℕ)
-    → line body test t ≡ parsed a after → test a ≡ true
-line-passed body test t a after e =
-    next-parsed (body t) (λ x t₁. next (byte lineFeed t₁) (λ u t₂. cond (test x) (parsed x t₂) unparsed)) e
-    (λ x t₁ read rest.
-    next-parsed (byte lineFeed t₁) (λ u t₂. cond (test x) (parsed x t₂) unparsed) rest
-    (λ u t₂ ended chosen.
-    chosen-parsed (test x) (parsed x t₂) chosen
-    (λ held same. ap test (sym (parsed-value same)) ∙ held)))
-
-refused-whole : {P : Type 0} {p : Plan} {n : ℕ} → refusedAfter n ≡ whole p → P
-refused-whole {P} {p} {n} e = absurd (subst Refuses e tt)
-  where
-    Refuses : Reading Plan → Type 0
-    Refuses (whole q) = ⊥
-    Refuses (refusedAfter m) = Unit {0}
-
-whole-value : {p q : Plan} → whole p ≡ whole q → p ≡ q
-whole-value {p} e = ap value e
-  where
-    value : Reading Plan → Plan
-    value (whole q) = q
-    value (refusedAfter n) = p
-
-capped : (text : List ℕ) → planReadWith saturated text ≡ planRead text
-unfolding planReadCapped
-capped text = capped-read text
-
--- A text that is refused after m lines is refused at line m + 1.
-refused-at :
-    (text : List ℕ) (entry exit : Tables) (m n : ℕ) → planRead text ≡ refusedAfter m → n ≡ suc m
-    → Passed text entry exit (answers.Line n)
-refused-at text entry exit m n e same = record {
-  numbers = ap (refusal 9) same ∙ sym (ap (λ (x : Reading Plan). answerTo (verdictOf x)) e);
-  tables = λ p f. refused-whole (sym e ∙ f);
-}
+use Rattle.reader.proofs.Refusals.{line-passed, whole-value, capped, refused-at}
 
 module _ (text : List ℕ) (first : RackLine) (entry : Tables)
     (rackRead : sizesOf text first ≡ next (place text (record { at = 0; fits = true })) (λ u t. line (rackBody saturated) sizesAccepted t)) where

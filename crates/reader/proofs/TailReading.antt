@@ -1,15 +1,15 @@
 -- What a text says behind the disks, by what its left line, its served line and its end are.
-use mathlib.Core.Path.{_≡_, refl, sym, ap, _∙_}
-use mathlib.Core.Bool.{Bool, true, false}
-use mathlib.Core.List.{List, [], _∷_}
-use Prim.Native.Nat.{ℕ, zero, suc, _≤_, _<_}
+use mathlib.Core.Path.{_≡_, sym, ap, _∙_}
+use mathlib.Core.Bool.{true, false}
+use mathlib.Core.List.{List, []}
+use Prim.Native.Nat.{ℕ, _≤_, _<_}
 use native.Mathlib.Omega.{arith}
 use lib.ListN.{length, drop, drop-of-length-le}
 use Rattle.placement.specs.Items.{Item, total}
 use Rattle.plan_text.specs.Text.{leftHead, servedLine}
 use Rattle.plan_text.specs.Plan.{leftAccepted, mostLeft}
-use Rattle.plan_text.specs.Parse.{Parse, parsed, unparsed, next, literal}
-use Rattle.plan_text.specs.Reading.{Reading, whole, refusedAfter, Tail, line, lineThen, joined, pairsBody, textEnd, readServed, readLeft}
+use Rattle.plan_text.specs.Parse.{Parse, next, literal}
+use Rattle.plan_text.specs.Reading.{Reading, whole, refusedAfter, Tail, line, lineThen, joined, pairsBody, textEnd, readServed}
 use Rattle.plan_text.specs.Capped.{saturated}
 use Rattle.plan_text.proofs.Choices.{false-true}
 use Rattle.reader.specs.declared.cursor.Cursor.{Cursor}

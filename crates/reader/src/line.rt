@@ -90,13 +90,13 @@ pub(crate) fn disk_line(
     let pairs = read_pairs(text, headed, films, viewers);
     let count = pairs.count;
     let sum = well_formed::total(&viewers[..count]);
-    let accepted = well_formed::disk_accepted(
+    let storable = well_formed::disk_accepted(
         rack.slots.0,
         rack.streams.0,
         &films[..count],
         &viewers[..count],
     );
-    let after = end_line(text, pairs.after, accepted);
+    let after = end_line(text, pairs.after, storable);
     PairsLine { count, sum, after }
 }
 

@@ -1,9 +1,9 @@
 -- `reader::cursor::eat_all` meets its contract. The invariant: what the bytes from `i` on leave of the text is what all leave of it.
-use mathlib.Core.Path.{_≡_, refl, sym, ap, _∙_}
-use Prim.Native.Nat.{ℕ, _≤_, _-_, _+_}
+use mathlib.Core.Path.{_≡_, refl, sym, _∙_}
+use Prim.Native.Nat.{_≤_, _-_}
 use native.Mathlib.Omega.{arith}
-use lib.ListN.{length, drop, getD, drop-of-length-le}
-use Rattle.plan_text.specs.Parse.{Parse, parsed, next, byte, literal}
+use lib.ListN.{length, drop}
+use Rattle.plan_text.specs.Parse.{next, literal}
 use Rattle.reader.specs.Cursor.{place}
 use Rattle.reader.proofs.Classes.{noneForeign-at}
 use Rattle.reader.proofs.Pieces.{literal-more, literal-done}

@@ -1,14 +1,13 @@
 -- `reader::disks::disk_lines` meets its contract: before each line the disks so far are stored, and come before what the rest says.
-use mathlib.Core.Path.{_≡_, refl, sym, ap, _∙_}
-use Prim.Native.Nat.{ℕ, suc, _≤_, _<_, _-_, _+_, _*_}
+use mathlib.Core.Path.{sym, _∙_}
+use Prim.Native.Nat.{_≤_, _<_, _-_, _+_, _*_}
 use native.Mathlib.Omega.{arith}
-use borrow.Author.Needs.{needs}
 use borrow.Author.Tests.{not-true, not-false}
-use lib.ListN.{length, drop, set, length-set}
 use borrow.Rule.Slice.PartMut.{putMid, same-len-mid}
 use Rattle.plan_text.proofs.Limits.{sizes-disks}
 use Rattle.reader.specs.Line.{sizes}
-use Rattle.reader.proofs.DiskSteps.{SoFar, so-far-none, so-far-done, so-far-stopped, so-far-more, room, films-part, viewers-part, small}
+use Rattle.reader.proofs.DisksSoFar.{SoFar, so-far-none, so-far-done}
+use Rattle.reader.proofs.DiskSteps.{so-far-stopped, so-far-more, room, films-part, viewers-part, small}
 use Rattle.reader.proofs.disks.disk_lines.Statement.{statement}
 use Rattle.reader.proofs.disks.disk_lines.Tie as tie
 

@@ -1,6 +1,6 @@
 -- `reader::line::disk_line` meets its contract: the head, the pairs, and the end of the line with the test of the copies.
 use borrow.Author.Needs.{needs}
-use mathlib.Core.Path.{_≡_, sym, _∙_}
+use mathlib.Core.Path.{_≡_, sym}
 use Prim.Native.Nat.{_≤_}
 use native.Mathlib.Omega.{arith}
 use lib.ListN.{length}

@@ -1,6 +1,6 @@
 -- `reader::line::read_rack` meets its contract: its pieces, one after the other.
 use borrow.Author.Needs.{needs}
-use Rattle.reader.proofs.Lines.{rack-read}
+use Rattle.reader.proofs.Racks.{rack-read}
 use Rattle.reader.proofs.line.read_rack.Statement.{statement}
 use Rattle.reader.proofs.line.read_rack.Tie as tie
 

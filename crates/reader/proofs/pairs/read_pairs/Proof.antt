@@ -1,18 +1,19 @@
 -- `reader::pairs::read_pairs` meets its contract. The invariant: the pairs so far, before what the rest reads, are what the whole reads.
 use mathlib.Core.Path.{_≡_, refl, sym, ap, _∙_}
 use mathlib.Core.List.{List}
-use Prim.Native.Nat.{ℕ, suc, _≤_, _<_, _-_, _+_}
+use Prim.Native.Nat.{ℕ, suc, _<_, _-_, _+_}
 use native.Mathlib.Omega.{arith}
 use borrow.Author.Needs.{needs}
 use borrow.Author.Tests.{not-true, not-false}
-use lib.ListN.{length, drop, set, length-set}
+use lib.ListN.{length, drop, length-set}
 use Rattle.placement.specs.Items.{Item, item}
-use Rattle.plan_text.specs.Parse.{Parse, next, pairs}
+use Rattle.plan_text.specs.Parse.{next, pairs}
 use Rattle.plan_text.specs.Capped.{saturated}
 use Rattle.reader.specs.Cursor.{place}
 use Rattle.reader.specs.Pairs.{front, Stored}
 use Rattle.reader.proofs.Pieces.{next-same, fitting, unfitting}
-use Rattle.reader.proofs.PairLists.{readsOn, readsOn-start, readsOn-more, readsOn-end, pairs-none, pairs-last, front-more, kept-more, ending}
+use Rattle.reader.proofs.PairLists.{readsOn, readsOn-start, readsOn-more, readsOn-end, pairs-none, pairs-last, ending}
+use Rattle.reader.proofs.StoredPairs.{front-more, kept-more}
 use Rattle.reader.proofs.pairs.read_pairs.Statement.{statement}
 use Rattle.reader.proofs.pairs.read_pairs.Tie as tie
 
