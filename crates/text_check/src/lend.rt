@@ -22,6 +22,23 @@ pub(crate) const LEFT_AMOUNTS: u64 = 15;
 
 pub(crate) const TEXT: u64 = 16;
 
+// What reading answers on a text and tables.
+pub(crate) fn read_plan(
+    text: &[u8],
+    films: &mut [u32],
+    viewers: &mut [u32],
+    counts: &mut [u32],
+    left: &mut [u32],
+    amounts: &mut [u32],
+) -> Outcome {
+    outcome_of(reader::read(text, films, viewers, counts, left, amounts))
+}
+
+// What the judgement answers on a text.
+pub(crate) fn judge_plan(text: &[u8]) -> Outcome {
+    outcome_of(reader::judge_text(text))
+}
+
 // What reading answers, on the lent part of the count table and of the left table.
 fn read_counts(
     l: Lent,
@@ -35,14 +52,14 @@ fn read_counts(
     let n = lent_places(l, COUNTS, counts.len());
     let f = lent_places(l, LEFT_FILMS, left.len());
     let a = lent_places(l, LEFT_AMOUNTS, amounts.len());
-    outcome_of(reader::read(
+    read_plan(
         text,
         films,
         viewers,
         &mut counts[..n],
         &mut left[..f],
         &mut amounts[..a],
-    ))
+    )
 }
 
 // What reading answers, on the lent parts of the tables.

@@ -1,11 +1,11 @@
 // One text through reading and through the judgement without tables, and a plan that was read through writing.
 use crate::bytes::before;
 use crate::lend::TEXT;
+use crate::lend::judge_plan;
 use crate::lend::read_lent;
 use crate::lend::write_lent;
 use crate::outcome::Length;
 use crate::outcome::Outcome;
-use crate::outcome::outcome_of;
 use crate::tables::COPIES;
 use crate::tables::DISKS;
 use crate::tables::LEFT;
@@ -157,7 +157,7 @@ pub(crate) fn run_trial(l: Lent, text: &[u8]) -> Trial {
         &mut left,
         &mut amounts,
     );
-    let judged = outcome_of(reader::judge_text(text));
+    let judged = judge_plan(text);
     examined(
         text,
         read,

@@ -13,10 +13,10 @@ use crate::lend::FILMS;
 use crate::lend::LEFT_AMOUNTS;
 use crate::lend::LEFT_FILMS;
 use crate::lend::VIEWERS;
+use crate::lend::read_plan;
 use crate::lend::write_lent;
 use crate::outcome::Length;
 use crate::outcome::Outcome;
-use crate::outcome::outcome_of;
 use crate::outcome::print_refusal;
 use crate::reading::lent;
 use crate::tables::COPIES;
@@ -102,7 +102,7 @@ fn read_and_write(file: &[u8], c: Case, text: &[u8]) {
     let mut counts = [UNUSED; DISKS];
     let mut left = [UNUSED; LEFT];
     let mut amounts = [UNUSED; LEFT];
-    let answer = reader::read(
+    let read = read_plan(
         text,
         &mut films,
         &mut viewers,
@@ -110,7 +110,7 @@ fn read_and_write(file: &[u8], c: Case, text: &[u8]) {
         &mut left,
         &mut amounts,
     );
-    let o = stated(c, outcome_of(answer));
+    let o = stated(c, read);
     set_place(c, FILMS, &mut films);
     set_place(c, VIEWERS, &mut viewers);
     set_place(c, COUNTS, &mut counts);

@@ -14,29 +14,26 @@ lent-places-requires-2 c κs = search needs
 lent-places-requires-3 : tie.Need-lent-places-requires-3
 lent-places-requires-3 c κs = search needs
 
-slice-relend-prefix-read : tie.Need-slice-relend-prefix-read
-slice-relend-prefix-read c = search needs
+slice-relend-prefix-read-plan : tie.Need-slice-relend-prefix-read-plan
+slice-relend-prefix-read-plan c = search needs
 
-slice-aggregate-read : tie.Need-slice-aggregate-read
-slice-aggregate-read c = sym (length-take-le _ _ (search needs))
+slice-aggregate-read-plan : tie.Need-slice-aggregate-read-plan
+slice-aggregate-read-plan c = sym (length-take-le _ _ (search needs))
 
-slice-relend-prefix-read-2 : tie.Need-slice-relend-prefix-read-2
-slice-relend-prefix-read-2 c = search needs
+slice-relend-prefix-read-plan-2 : tie.Need-slice-relend-prefix-read-plan-2
+slice-relend-prefix-read-plan-2 c = search needs
 
-slice-aggregate-read-2 : tie.Need-slice-aggregate-read-2
-slice-aggregate-read-2 c = sym (length-take-le _ _ (search needs))
+slice-aggregate-read-plan-2 : tie.Need-slice-aggregate-read-plan-2
+slice-aggregate-read-plan-2 c = sym (length-take-le _ _ (search needs))
 
-slice-relend-prefix-read-3 : tie.Need-slice-relend-prefix-read-3
-slice-relend-prefix-read-3 c = search needs
+slice-relend-prefix-read-plan-3 : tie.Need-slice-relend-prefix-read-plan-3
+slice-relend-prefix-read-plan-3 c = search needs
 
-slice-aggregate-read-3 : tie.Need-slice-aggregate-read-3
-slice-aggregate-read-3 c = sym (length-take-le _ _ (search needs))
+slice-aggregate-read-plan-3 : tie.Need-slice-aggregate-read-plan-3
+slice-aggregate-read-plan-3 c = sym (length-take-le _ _ (search needs))
 
-read-requires : tie.Need-read-requires
-read-requires c κs = search needs
-
-outcome-of-requires : tie.Need-outcome-of-requires
-outcome-of-requires c κs = search needs
+read-plan-requires : tie.Need-read-plan-requires
+read-plan-requires c κs = search needs
 
 same-length : tie.Need-same-length
 same-length c = search needs
@@ -63,14 +60,13 @@ read-counts-spec =
     lent-places-requires
     lent-places-requires-2
     lent-places-requires-3
-    slice-relend-prefix-read
-    slice-aggregate-read
-    slice-relend-prefix-read-2
-    slice-aggregate-read-2
-    slice-relend-prefix-read-3
-    slice-aggregate-read-3
-    read-requires
-    outcome-of-requires
+    slice-relend-prefix-read-plan
+    slice-aggregate-read-plan
+    slice-relend-prefix-read-plan-2
+    slice-aggregate-read-plan-2
+    slice-relend-prefix-read-plan-3
+    slice-aggregate-read-plan-3
+    read-plan-requires
     same-length
     same-length-2
     same-length-3
