@@ -3,7 +3,6 @@ use Prim.Native.Nat.{ℕ}
 use mathlib.Core.List.{List}
 use Rattle.placement.specs.Tables.{Tables}
 use Rattle.plan_text.specs.ReadCall.{ReadNumbers}
-use Rattle.reader.specs.declared.PlanRead.{PlanRead}
 use Rattle.reader.specs.declared.ReadAnswer.{ReadAnswer}
 use Rattle.reader.specs.declared.ReadAnswer.the-variants.{Plan, TextTooLong, Line, TablesTooShort}
 

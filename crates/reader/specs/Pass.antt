@@ -5,7 +5,7 @@ use mathlib.Core.List.{List}
 use lib.ListN.{length}
 use Rattle.placement.specs.Tables.{Tables}
 use Rattle.plan_text.specs.Plan.{Plan}
-use Rattle.plan_text.specs.Reading.{Reading, whole, planRead}
+use Rattle.plan_text.specs.Reading.{whole, planRead}
 use Rattle.plan_text.specs.ReadCall.{plan, answerTo, verdictOf, textVerdict, judging, holdingPlan}
 use Rattle.reader.specs.declared.ReadAnswer.{ReadAnswer}
 use Rattle.reader.specs.Answers.{numbersOf}

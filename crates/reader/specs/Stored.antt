@@ -1,10 +1,8 @@
 -- The front parts of tables, stored in others.
-use Prim.Native.Nat.{ℕ, _*_, _≤_}
-use mathlib.Core.Path.{_≡_}
+use Prim.Native.Nat.{ℕ, _≤_}
 use mathlib.Core.List.{List, _++_}
 use lib.ListN.{length, take, drop}
 use Rattle.placement.specs.Tables.{Tables}
-use Rattle.reader.specs.declared.PlanRead.{PlanRead}
 
 -- The list with its first n places taken from another.
 abbrev pub frontCopied : ℕ → List ℕ → List ℕ → List ℕ

@@ -12,7 +12,6 @@ use placement::Streams;
 ghost use mathlib.Core.Path.{_≡_};
 ghost use mathlib.Core.Bool.{true};
 ghost use lib.ListN.{length};
-ghost use Prim.Native.Nat.{_≤_};
 ghost use Rattle.plan_text.specs.Parse.{next, literal};
 ghost use Rattle.plan_text.specs.Capped.{saturated};
 ghost use Rattle.plan_text.specs.Plan.{diskAccepted, leftAccepted};

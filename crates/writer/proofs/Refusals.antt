@@ -7,7 +7,6 @@ use native.Mathlib.Omega.{arith}
 use borrow.Author.Tests.{le-leb, lt-leb}
 use lib.Dec.{leb}
 use lib.ListN.{length, length-append}
-use lib.Seq.{sets}
 use Rattle.placement.specs.Tables.{written}
 use Rattle.plan_text.specs.Ascii.{ascii}
 use Rattle.plan_text.specs.Decimal.{decimal}

@@ -2,7 +2,7 @@
 use mathlib.Core.Path.{ap}
 use native.Mathlib.Omega.{arith}
 use lib.ListN.{length}
-use Rattle.writer.proofs.Spaces.{put-as, put-then, put-length}
+use Rattle.writer.proofs.Spaces.{put-as, put-then}
 use Rattle.writer.proofs.Refusals.{end-none, end-some, end-some-length}
 use borrow.Author.Needs.{needs}
 use Rattle.writer.proofs.refusal.put_end.Statement.{statement}

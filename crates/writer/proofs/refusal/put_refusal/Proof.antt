@@ -1,7 +1,7 @@
 -- `refusal::put_refusal` meets its contract: four runs, one behind the other.
 use native.Mathlib.Omega.{arith}
 use Rattle.writer.proofs.Bounds.{decimal-short}
-use Rattle.writer.proofs.Spaces.{put-as, put-then, put-length}
+use Rattle.writer.proofs.Spaces.{put-as, put-then}
 use Rattle.writer.proofs.Refusals.{end-short, refusal-runs}
 use borrow.Author.Needs.{needs}
 use Rattle.writer.proofs.refusal.put_refusal.Statement.{statement}

@@ -1,6 +1,5 @@
 -- `refusal::write_refusal` keeps its promise, whether the space is long enough or not.
 use native.Mathlib.Omega.{arith}
-use Rattle.writer.proofs.Spaces.{put-length}
 use Rattle.writer.proofs.Refusals.{refusal-short, refusal-written}
 use borrow.Author.Needs.{needs}
 use Rattle.writer.proofs.refusal.write_refusal.Statement.{statement}
