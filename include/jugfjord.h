@@ -31,7 +31,7 @@ struct jugfjord_planned {
 };
 
 /* Plans by the sliding-window method. `list` has eight bytes a record: film number, then demand, each 32 bits, least
- * significant byte first. Refusals 1, 2, 3, 7, 4, 5, 6. About 80 KiB of stack. */
+ * significant byte first. Refusals 1, 2, 3, 7, 4, 5, 6. Less than 80 KiB of stack. */
 struct jugfjord_planned jugfjord_plan(uint32_t disks, uint32_t slots, uint32_t streams,
                                       const uint8_t *list, size_t list_count,
                                       uint32_t *films, size_t films_count,
@@ -47,7 +47,7 @@ struct jugfjord_written {
 };
 
 /* Writes the plan text of the tables to the front of `text`; 43,885 bytes are always enough. `left` is the number of left
- * films. Refusals 1, 7, 10, 11. */
+ * films. Refusals 1, 7, 10, 11. Less than 4 KiB of stack. */
 struct jugfjord_written jugfjord_write(uint32_t disks, uint32_t slots, uint32_t streams,
                                        const uint32_t *films, size_t films_count,
                                        const uint32_t *viewers, size_t viewers_count,
@@ -68,7 +68,7 @@ struct jugfjord_read_plan {
     uint64_t unserved;
 };
 
-/* Reads a plan text into the tables. Refusals 8, 9 with the line, 7. About 32 KiB of stack. */
+/* Reads a plan text into the tables. Refusals 8, 9 with the line, 7. Less than 32 KiB of stack. */
 struct jugfjord_read_plan jugfjord_read(const uint8_t *text, size_t text_count,
                                         uint32_t *films, size_t films_count,
                                         uint32_t *viewers, size_t viewers_count,
