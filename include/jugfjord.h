@@ -1,16 +1,22 @@
 /* Jugfjord: plans for film racks, and their texts.
  *
- * Every function may be called with any numbers, any list and any text. It gives a plan or one of the refusals
- * that docs/FORMAT.md lists: `number` is 0 for success, else the refusal, with `second` where the refusal has a second
- * number and zero for the rest. A refusal changes no byte and no entry of what the caller lent.
+ * Every function may be called with any numbers, any list, any text and tables of any length. It succeeds, or gives one
+ * of the refusals that docs/FORMAT.md lists: `number` is 0 for success, else the refusal, with `second` where the refusal has a
+ * second number, and zero for the rest. A refusal changes no byte and no entry of what the caller lent.
  *
  * What a caller must keep:
- * - a pointer is valid for its count: that many bytes or numbers can be read there, and written where it is not const;
- * - a pointer with count 0 may point anywhere but must not be NULL, and is aligned for its type;
+ * - a pointer is not NULL, is aligned for its type and is valid for its count: that many bytes or numbers can be read there,
+ *   and written where it is not const;
  * - what one call is lent does not overlap, except that two const arguments may.
  *
- * Tables: the copy table is `films` and `viewers`, the left table is `left_films` and `left_amounts`. Where the two come with
- * different counts, the shorter one is the table's length. Disk d (from 1) has its copies from place (d - 1) * slots on.
+ * Tables: the copy table is `films` and `viewers`, the left table `left_films` and `left_amounts`; where the two come with
+ * different counts, the shorter one is the table's length. `counts` has the number of copies of each disk. Disk d (from 1) has
+ * its copies from place (d - 1) * slots on. Planning and reading set the unused copy places to 0, and writing asks for that.
+ * JUGFJORD_MOST_COPIES, JUGFJORD_MOST_DISKS and JUGFJORD_MOST_LEFT places are always enough.
+ *
+ * `served` is the sum of viewers over all copies, `unserved` what is left in sum.
+ *
+ * Link with target/staticlib/libjugfjord.a, which `rt staticlib jugfjord` writes.
  */
 #ifndef JUGFJORD_H
 #define JUGFJORD_H
@@ -22,6 +28,11 @@
 extern "C" {
 #endif
 
+#define JUGFJORD_MOST_COPIES 2048 /* disks times slots */
+#define JUGFJORD_MOST_DISKS 64
+#define JUGFJORD_MOST_LEFT 1024
+#define JUGFJORD_MOST_TEXT 43885 /* bytes of the longest plan text */
+
 struct jugfjord_planned {
     uint32_t number;
     uint32_t second;
@@ -31,7 +42,8 @@ struct jugfjord_planned {
 };
 
 /* Plans by the sliding-window method. `list` has eight bytes a record: film number, then demand, each 32 bits, least
- * significant byte first. Refusals 1, 2, 3, 7, 4, 5, 6. Less than 80 KiB of stack. */
+ * significant byte first; list_count is in bytes. The tables need disks * slots copy places, `disks` counts and a left place
+ * for each record. Refusals 1, 2, 3, 7, 4, 5, 6. Less than 80 KiB of stack. */
 struct jugfjord_planned jugfjord_plan(uint32_t disks, uint32_t slots, uint32_t streams,
                                       const uint8_t *list, size_t list_count,
                                       uint32_t *films, size_t films_count,
@@ -46,8 +58,8 @@ struct jugfjord_written {
     uint64_t length;
 };
 
-/* Writes the plan text of the tables to the front of `text`; 43,885 bytes are always enough. `left` is the number of left
- * films. Refusals 1, 7, 10, 11. Less than 4 KiB of stack. */
+/* Writes the plan text of the tables to the front of `text`, with no zero byte behind it; JUGFJORD_MOST_TEXT bytes are always
+ * enough. `left` is the number of left films. Refusals 1, 7, 10, 11. Less than 4 KiB of stack. */
 struct jugfjord_written jugfjord_write(uint32_t disks, uint32_t slots, uint32_t streams,
                                        const uint32_t *films, size_t films_count,
                                        const uint32_t *viewers, size_t viewers_count,
@@ -68,7 +80,7 @@ struct jugfjord_read_plan {
     uint64_t unserved;
 };
 
-/* Reads a plan text into the tables. Refusals 8, 9 with the line, 7. Less than 32 KiB of stack. */
+/* Reads a plan text into the tables, which need disks * slots copy places, `disks` counts and a place for each left film. Refusals 8, 9 with the line, 7. Less than 32 KiB of stack. */
 struct jugfjord_read_plan jugfjord_read(const uint8_t *text, size_t text_count,
                                         uint32_t *films, size_t films_count,
                                         uint32_t *viewers, size_t viewers_count,

@@ -136,6 +136,9 @@ pub keep-promise : (before more answer : ℕ) → answer ≡ kept (before + more
 keep-promise before more answer e = record {
   number = e;
   most = omega (arith, e, kept-most (before + more));
-  stands = λ input whole. ap (λ (n : ℕ). outputOf (take n input)) (e ∙ ap kept (sym whole)) ∙ kept-output input;
-  counted = λ n part. e ∙ ap (λ (m : ℕ). kept (m + more)) part ∙ kept-more n more;
+  counted = counted;
+  stands = λ n part input whole. ap (λ (m : ℕ). outputOf (take m input)) (counted n part ∙ ap kept (sym whole)) ∙ kept-output input;
 }
+  where
+    counted : (n : ℕ) → before ≡ kept n → answer ≡ kept (n + more)
+    counted n part = e ∙ ap (λ (m : ℕ). kept (m + more)) part ∙ kept-more n more

@@ -1,17 +1,20 @@
 -- The promise of the whole output, from what was shown for a short input and for a call.
 use mathlib.Core.Path.{_≡_, refl, sym, ap, ap₂, subst, _∙_}
-use mathlib.Core.Bool.{Bool, cond}
+use mathlib.Core.Bool.{Bool, true, cond}
 use mathlib.Core.List.{List}
 use Prim.Native.Nat.{ℕ, _-_, _≤_, _<_}
 use native.Mathlib.Omega.{arith}
 use borrow.Author.Tests.{lt-ltb, le-ltb, le-leb, lt-leb}
 use lib.ListN.{length, take, drop, length-append, length-drop}
-use lib.Seq.{take-length}
+use lib.Dec.{leb}
+use lib.Seq.{take-length, take-append-seam}
 use Rattle.placement.specs.Records.{Verdict, planned, refused, number32}
 use Rattle.placement.specs.Tables.{written}
 use Rattle.placement.specs.Planning.{Call, Numbers, verdict}
 use Rattle.placement.proofs.Bounds.{call-wellFormed}
 use Rattle.placement.proofs.Tests.{by-order}
+use Rattle.plan_text.specs.Plan.{Plan}
+use Rattle.plan_text.specs.Text.{textOf}
 use Rattle.plan_text.specs.Refusal.{refusalText}
 use Rattle.plan_text.specs.Planned.{planIn}
 use Rattle.plan_text.proofs.LongestText.{text-length}
@@ -47,6 +50,19 @@ printed-short : (c : Call) (v : Verdict) → verdict c ownTables ≡ v → Small
 printed-short c planned e small = text-length (planIn c) (planIn-wellFormed c ownTables (call-wellFormed c ownTables e))
 printed-short c (refused number second) e small = omega (arith, refusal-short number second, small .1, small .2)
 
+-- Neither a plan's text nor a refusal's is empty.
+text-some : (p : Plan) → 1 ≤ length (textOf p)
+unfolding textOf
+text-some p = omega arith
+
+refusal-some : (number second : ℕ) → 1 ≤ length (refusalText number second)
+unfolding refusalText
+refusal-some number second = omega arith
+
+printed-some : (c : Call) (v : Verdict) → 1 ≤ length (printed c v)
+printed-some c planned = text-some (planIn c)
+printed-some c (refused number second) = refusal-some number second
+
 module _ (input : List ℕ) where
   abbrev whole : List ℕ
   whole = printed (callIn input) (verdict (callIn input) ownTables)
@@ -66,9 +82,31 @@ module _ (input : List ℕ) where
       (λ short. omega (arith, refusal-short 2 0, ap length (short-output short)))
       (λ long. omega (arith, printed-short (callIn input) (verdict (callIn input) ownTables) refl (small-verdict (callIn input) ownTables), ap length (long-output long)))
 
+  some : 1 ≤ length (outputOf input)
+  some =
+      by-order (length input) headBytes (λ short. omega (arith, refusal-some 2 0, ap length (short-output short)))
+      (λ long. omega (arith, printed-some (callIn input) (verdict (callIn input) ownTables), ap length (long-output long)))
+
   module _ {entry exit : List ℕ} {answer : ℕ} where
+    -- In a space that is long enough the first bytes are the output.
+    shown-whole : Shown (outputOf input) entry exit answer → mostOutput ≤ length entry → take answer exit ≡ outputOf input
+    shown-whole shown room =
+        ap₂ (λ (n : ℕ) (l : List ℕ). take n l)
+        (shown .count ∙ ap (λ (b : Bool). cond b (length (outputOf input)) 0) fits)
+        (shown .bytes ∙ ap (λ (b : Bool). cond b (written (outputOf input) entry) entry) fits)
+        ∙ take-append-seam (outputOf input) (drop (length (outputOf input)) entry)
+      where
+        fits : leb (length (outputOf input)) (length entry) ≡ true
+        fits = le-leb (length (outputOf input)) (length entry) (omega (arith, enough, room))
+
     shown-promise : Shown (outputOf input) entry exit answer → OutputPromise input entry exit answer
-    shown-promise shown = record { count = shown .count; bytes = shown .bytes; enough = enough }
+    shown-promise shown = record {
+      count = shown .count;
+      bytes = shown .bytes;
+      enough = enough;
+      some = some;
+      whole = shown-whole shown;
+    }
 
     -- The refusal of a short input keeps the promise.
     pub short-promise : length input < headBytes → RefusalPromise 2 0 entry exit answer → OutputPromise input entry exit answer
@@ -106,3 +144,15 @@ output-fits {input} {entry} {exit} {answer} promise =
     let all : answer ≡ length (outputOf input) = promise .count ∙ ap (λ (b : Bool). cond b (length (outputOf input)) 0) test in
     let held : exit ≡ written (outputOf input) entry = promise .bytes ∙ ap (λ (b : Bool). cond b (written (outputOf input) entry) entry) test in
     omega (arith, all, ap length held, length-append (outputOf input) (drop (length (outputOf input)) entry)))
+
+-- In a space that is long enough the output stands at the front.
+pub output-front :
+    {input entry exit : List ℕ} {answer : ℕ} → OutputPromise input entry exit answer → mostOutput ≤ length entry
+    → take (length (outputOf input)) exit ≡ outputOf input
+output-front {input} {entry} {exit} {answer} promise room = ap (λ (n : ℕ). take n exit) (sym all) ∙ promise .whole room
+  where
+    all : answer ≡ length (outputOf input)
+    all =
+        promise .count
+        ∙ ap (λ (b : Bool). cond b (length (outputOf input)) 0)
+        (le-leb (length (outputOf input)) (length entry) (omega (arith, promise .enough, room)))

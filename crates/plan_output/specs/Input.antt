@@ -24,6 +24,7 @@ callIn input = record {
 abbrev pub mostKept : ℕ
 mostKept = 8219
 
--- How many bytes of an input of n bytes stand for the whole: all of them, or 1,025 records and the same odd bytes.
+-- How many bytes of an input of n bytes stand for the whole: all of them, or the head, 1,025 records and as many odd
+-- bytes.
 abbrev pub kept : ℕ → ℕ
 kept n = cond (leb n mostKept) n (8212 + (n - headBytes) % 8)

@@ -10,7 +10,8 @@ use Rattle.plan_output.specs.Output.{outputOf}
 pub record KeepPromise (before more answer : ℕ) : Type 0 where
   pub number : answer ≡ kept (before + more)
   pub most : answer ≤ mostKept
-  -- the program prints for the kept part what it prints for the whole
-  pub stands : (input : List ℕ) → length input ≡ before + more → outputOf (take answer input) ≡ outputOf input
-  -- where `before` was itself what is kept of n bytes, the answer is what is kept of all
+  -- where `before` is itself what is kept of n bytes, the answer is what is kept of all of them
   pub counted : (n : ℕ) → before ≡ kept n → answer ≡ kept (n + more)
+  -- and for that part of an input the program prints what it prints for the whole
+  pub stands :
+      (n : ℕ) → before ≡ kept n → (input : List ℕ) → length input ≡ n + more → outputOf (take answer input) ≡ outputOf input

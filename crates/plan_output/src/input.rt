@@ -7,7 +7,7 @@ ghost use Rattle.plan_output.specs.KeepPromise.{KeepPromise};
 // The three numbers, 1,025 records and 7 bytes more: an input of this length or less is kept whole.
 pub const MOST_KEPT: usize = 8_219;
 
-// How many bytes stand for an input of `before` bytes and `more` further ones. Of a long input they are the first 1,025
+// How many bytes stand for an input of `before` bytes and `more` further ones. Of a long input they are the three numbers, 1,025
 // records and as many odd bytes as the whole has.
 pub fn keep(before: usize, more: usize) -> usize
     ensures { λ r. ⌜ KeepPromise before more r ⌝ }

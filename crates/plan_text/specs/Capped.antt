@@ -1,4 +1,4 @@
--- The same reading with numbers that stop at 2³² − 1.
+-- The reading of a plan's text (Reading) with numbers that stop at 2³² − 1, as the code has them.
 use Prim.Native.Nat.{ℕ, min}
 use mathlib.Core.List.{List}
 use Rattle.plan_text.specs.Plan.{Plan}

@@ -1,4 +1,5 @@
--- Texts and what their judgement is, as one table: case A of document 01, its edges, and texts that are refused at a line.
+-- Texts and their judgement: accepted ones, case A of document 01 among them, and texts that are refused at line 1, line 2
+-- and later, the empty text among them.
 use Prim.Native.Nat.{ℕ}
 use Prim.Native.String.{String}
 use mathlib.Core.List.{List, [], _∷_, map}

@@ -19,7 +19,7 @@ pairOf text p = valued (item (p .film) (p .amount)) text (p .after)
 abbrev pub front : ℕ → List ℕ → List ℕ → List Item
 front n films amounts = entries (take n films) (take n amounts)
 
--- The slices begin with the first n entries of what they hold, and the places behind are as before.
+-- The slices have room for n entries, and the places behind these are as before.
 pub record Stored (n : ℕ) (films amounts films′ amounts′ : List ℕ) : Type 0 where
   pub few : n ≤ length films
   pub filmsKept : drop n films′ ≡ drop n films

@@ -1,4 +1,4 @@
--- One pass over a text, into tables that are zero.
+-- One pass over a text, into tables whose copy places are zero.
 use Prim.Native.Nat.{ℕ}
 use mathlib.Core.Path.{_≡_}
 use mathlib.Core.List.{List}
@@ -11,7 +11,7 @@ use Rattle.reader.specs.declared.ReadAnswer.{ReadAnswer}
 use Rattle.reader.specs.Answers.{numbersOf}
 use Rattle.reader.specs.Disks.{Zeros}
 
--- Tables for the largest plan, with zero copies.
+-- Tables with room for the largest plan, whose copy places are all zero.
 pub record Workspace (t : Tables) : Type 0 where
   pub zeroFilms : Zeros 2048 (t .films)
   pub zeroViewers : Zeros 2048 (t .viewers)

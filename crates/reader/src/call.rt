@@ -10,7 +10,7 @@ ghost use Rattle.reader.specs.Promise.{ReadPromise};
 // Document 01's most bytes of a text.
 const MOST_BYTES: usize = 65_536;
 
-// The judgement of a text; its plan is stored in tables that are zero.
+// The judgement of a text; its plan is stored in tables whose copy places are zero.
 pub(crate) fn judge(
     text: &[u8],
     films: &mut [u32],

@@ -63,7 +63,7 @@ pub fn read(
     )
 }
 
-// Judges a text with no tables lent.
+// Judges a text with no tables lent, so that TablesTooShort is never its answer.
 pub fn judge_text(text: &[u8]) -> ReadAnswer
     ensures { λ r. ⌜ JudgePromise (now (text .entry)) (numbersOf r) ⌝ }
 {

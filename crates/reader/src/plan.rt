@@ -8,7 +8,7 @@ use crate::tail::tail_lines;
 ghost use Rattle.reader.specs.Answers.{tablesOf};
 ghost use Rattle.reader.specs.Pass.{Workspace, Passed};
 
-// The plan of a text, read line by line into tables that are zero, or the number of the first line that does not fit.
+// The plan of a text, read line by line into tables whose copy places are zero, or the number of the first line that does not fit.
 pub(crate) fn read_lines(
     text: &[u8],
     films: &mut [u32],

@@ -4,7 +4,7 @@ use crate::line::left_line;
 use crate::line::served_line;
 ghost use Rattle.reader.specs.Tail.{TailReady, TailRead};
 
-// How many of the lines fit; whether both do and end the text; the left films and their sum.
+// How many of the lines fit; whether both do and end the text; the number of left films and the sum of their amounts.
 pub struct TailLines {
     pub lines: u32,
     pub fits: bool,

@@ -1,7 +1,7 @@
--- `print` is safe: the output fits the space.
+-- `print` is safe, since the output fits the space, and leaves the output at its front.
 use mathlib.Core.Path.{sym}
 use lib.Seq.{length-take-le}
-use Rattle.plan_output.proofs.Outputs.{output-fits}
+use Rattle.plan_output.proofs.Outputs.{output-fits, output-front}
 use borrow.Author.Needs.{needs}
 use Rattle.plan.proofs.print.Statement.{statement}
 use Rattle.plan.proofs.print.Tie as tie
@@ -22,7 +22,8 @@ same-length : tie.Need-same-length
 same-length c = search needs
 
 returns : tie.Need-returns
-returns c = search needs
+returns c =
+    output-front (c .before .before .before .before .output .ensures) (c .before .before .before .before .before .before .before .before .pre)
 
 pub print-spec : {M : Type 1} → statement M
 print-spec =
