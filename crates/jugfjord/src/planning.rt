@@ -30,7 +30,11 @@ pub extern "C" fn jugfjord_plan(
     leftfilms: &mut [u32],
     leftamounts: &mut [u32],
 ) -> Planned
-    ensures { λ r. ⌜ PlanPromise (callOf disks slots streams (now (list .entry))) (tables (now (films .entry)) (now (viewers .entry)) (now (counts .entry)) (now (leftfilms .entry)) (now (leftamounts .entry))) (tables (now (films .exit)) (now (viewers .exit)) (now (counts .exit)) (now (leftfilms .exit)) (now (leftamounts .exit))) (plannedNumbers r) ⌝ }
+    ensures { λ r. ⌜ PlanPromise
+        (callOf disks slots streams (now (list .entry)))
+        (tables (now (films .entry)) (now (viewers .entry)) (now (counts .entry)) (now (leftfilms .entry)) (now (leftamounts .entry)))
+        (tables (now (films .exit)) (now (viewers .exit)) (now (counts .exit)) (now (leftfilms .exit)) (now (leftamounts .exit)))
+        (plannedNumbers r) ⌝ }
 {
     let rack = Rack {
         disks,

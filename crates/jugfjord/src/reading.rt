@@ -75,7 +75,10 @@ pub extern "C" fn jugfjord_read(
     leftfilms: &mut [u32],
     leftamounts: &mut [u32],
 ) -> ReadPlan
-    ensures { λ r. ⌜ ReadPromise (now (text .entry)) (tables (now (films .entry)) (now (viewers .entry)) (now (counts .entry)) (now (leftfilms .entry)) (now (leftamounts .entry))) (tables (now (films .exit)) (now (viewers .exit)) (now (counts .exit)) (now (leftfilms .exit)) (now (leftamounts .exit))) (readNumbers r) ⌝ }
+    ensures { λ r. ⌜ ReadPromise (now (text .entry))
+        (tables (now (films .entry)) (now (viewers .entry)) (now (counts .entry)) (now (leftfilms .entry)) (now (leftamounts .entry)))
+        (tables (now (films .exit)) (now (viewers .exit)) (now (counts .exit)) (now (leftfilms .exit)) (now (leftamounts .exit)))
+        (readNumbers r) ⌝ }
 {
     read_numbers(reader::read(text, films, viewers, counts, leftfilms, leftamounts))
 }

@@ -59,7 +59,9 @@ pub extern "C" fn jugfjord_write(
     left: u32,
     text: &mut [u8],
 ) -> WrittenNumbers
-    ensures { λ r. ⌜ WritePromise (writeCall disks slots streams (tables (now (films .entry)) (now (viewers .entry)) (now (counts .entry)) (now (leftfilms .entry)) (now (leftamounts .entry))) left) (now (text .entry)) (now (text .exit)) (writtenNumbers r) ⌝ }
+    ensures { λ r. ⌜ WritePromise
+        (writeCall disks slots streams (tables (now (films .entry)) (now (viewers .entry)) (now (counts .entry)) (now (leftfilms .entry)) (now (leftamounts .entry))) left)
+        (now (text .entry)) (now (text .exit)) (writtenNumbers r) ⌝ }
 {
     let rack = Rack {
         disks,

@@ -53,7 +53,9 @@ fn print_with(
     text: &mut [u8],
 ) -> usize
     requires { ⌜ tables (now films) (now viewers) (now counts) (now leftfilms) (now leftamounts) ≡ ownTables ⌝ }
-    ensures { λ r. ⌜ Shown (printed (callOf (rack .disks) (rack .slots .0) (rack .streams .0) (now (list .entry))) (verdict (callOf (rack .disks) (rack .slots .0) (rack .streams .0) (now (list .entry))) ownTables)) (now (text .entry)) (now (text .exit)) r ⌝ }
+    ensures { λ r. ⌜ Shown
+        (printed (callOf (rack .disks) (rack .slots .0) (rack .streams .0) (now (list .entry))) (verdict (callOf (rack .disks) (rack .slots .0) (rack .streams .0) (now (list .entry))) ownTables))
+        (now (text .entry)) (now (text .exit)) r ⌝ }
 {
     let answer = planner::plan(rack, list, films, viewers, counts, leftfilms, leftamounts);
     let Answer::Planned {
@@ -79,7 +81,9 @@ fn print_with(
 
 // The same, with tables made for it: room for the largest rack and the longest list.
 fn print_call(rack: Rack, list: &[u8], text: &mut [u8]) -> usize
-    ensures { λ r. ⌜ Shown (printed (callOf (rack .disks) (rack .slots .0) (rack .streams .0) (now (list .entry))) (verdict (callOf (rack .disks) (rack .slots .0) (rack .streams .0) (now (list .entry))) ownTables)) (now (text .entry)) (now (text .exit)) r ⌝ }
+    ensures { λ r. ⌜ Shown
+        (printed (callOf (rack .disks) (rack .slots .0) (rack .streams .0) (now (list .entry))) (verdict (callOf (rack .disks) (rack .slots .0) (rack .streams .0) (now (list .entry))) ownTables))
+        (now (text .entry)) (now (text .exit)) r ⌝ }
 {
     let mut films = [0u32; 2048];
     let mut viewers = [0u32; 2048];

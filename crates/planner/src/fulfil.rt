@@ -25,10 +25,16 @@ fn fill_with(
     leftamounts: &mut [u32],
     keys: &mut [u64],
 ) -> Answer
-    requires { ⌜ Plannable (callOf (rack .disks) (rack .slots .0) (rack .streams .0) (now list)) (tables (now films) (now viewers) (now counts) (now leftfilms) (now leftamounts)) ⌝ }
+    requires { ⌜ Plannable
+        (callOf (rack .disks) (rack .slots .0) (rack .streams .0) (now list))
+        (tables (now films) (now viewers) (now counts) (now leftfilms) (now leftamounts)) ⌝ }
     requires { ⌜ 1024 ≤ length (now keys) ⌝ }
     ensures { λ r. ⌜ numbersOf r ≡ answerFor (callOf (rack .disks) (rack .slots .0) (rack .streams .0) (now (list .entry))) planned ⌝ }
-    ensures { λ _. ⌜ tables (now (films .exit)) (now (viewers .exit)) (now (counts .exit)) (now (leftfilms .exit)) (now (leftamounts .exit)) ≡ tablesFor (callOf (rack .disks) (rack .slots .0) (rack .streams .0) (now (list .entry))) (tables (now (films .entry)) (now (viewers .entry)) (now (counts .entry)) (now (leftfilms .entry)) (now (leftamounts .entry))) planned ⌝ }
+    ensures { λ _. ⌜ tables (now (films .exit)) (now (viewers .exit)) (now (counts .exit)) (now (leftfilms .exit)) (now (leftamounts .exit))
+        ≡ tablesFor
+        (callOf (rack .disks) (rack .slots .0) (rack .streams .0) (now (list .entry)))
+        (tables (now (films .entry)) (now (viewers .entry)) (now (counts .entry)) (now (leftfilms .entry)) (now (leftamounts .entry)))
+        planned ⌝ }
 {
     let n = build(list, keys);
     let disks = rack.disks as usize;
@@ -54,9 +60,15 @@ pub(crate) fn fill_tables(
     leftfilms: &mut [u32],
     leftamounts: &mut [u32],
 ) -> Answer
-    requires { ⌜ Plannable (callOf (rack .disks) (rack .slots .0) (rack .streams .0) (now list)) (tables (now films) (now viewers) (now counts) (now leftfilms) (now leftamounts)) ⌝ }
+    requires { ⌜ Plannable
+        (callOf (rack .disks) (rack .slots .0) (rack .streams .0) (now list))
+        (tables (now films) (now viewers) (now counts) (now leftfilms) (now leftamounts)) ⌝ }
     ensures { λ r. ⌜ numbersOf r ≡ answerFor (callOf (rack .disks) (rack .slots .0) (rack .streams .0) (now (list .entry))) planned ⌝ }
-    ensures { λ _. ⌜ tables (now (films .exit)) (now (viewers .exit)) (now (counts .exit)) (now (leftfilms .exit)) (now (leftamounts .exit)) ≡ tablesFor (callOf (rack .disks) (rack .slots .0) (rack .streams .0) (now (list .entry))) (tables (now (films .entry)) (now (viewers .entry)) (now (counts .entry)) (now (leftfilms .entry)) (now (leftamounts .entry))) planned ⌝ }
+    ensures { λ _. ⌜ tables (now (films .exit)) (now (viewers .exit)) (now (counts .exit)) (now (leftfilms .exit)) (now (leftamounts .exit))
+        ≡ tablesFor
+        (callOf (rack .disks) (rack .slots .0) (rack .streams .0) (now (list .entry)))
+        (tables (now (films .entry)) (now (viewers .entry)) (now (counts .entry)) (now (leftfilms .entry)) (now (leftamounts .entry)))
+        planned ⌝ }
 {
     let mut keys = [0; 1024];
     fill_with(

@@ -51,7 +51,10 @@ pub(crate) fn judge(
     leftfilms: usize,
     leftamounts: usize,
 ) -> Answer
-    ensures { λ r. ⌜ verdictOf r ≡ verdictBy (callOf (rack .disks) (rack .slots .0) (rack .streams .0) (now (list .entry))) films viewers counts leftfilms leftamounts ⌝ }
+    ensures { λ r. ⌜ verdictOf r
+        ≡ verdictBy
+        (callOf (rack .disks) (rack .slots .0) (rack .streams .0) (now (list .entry))) films viewers counts leftfilms
+        leftamounts ⌝ }
 {
     if !accepted(rack) {
         return Answer::RackOutOfRange;

@@ -48,7 +48,11 @@ pub fn plan(
     leftfilms: &mut [u32],
     leftamounts: &mut [u32],
 ) -> Answer
-    ensures { λ r. ⌜ PlanPromise (callOf (rack .disks) (rack .slots .0) (rack .streams .0) (now (list .entry))) (tables (now (films .entry)) (now (viewers .entry)) (now (counts .entry)) (now (leftfilms .entry)) (now (leftamounts .entry))) (tables (now (films .exit)) (now (viewers .exit)) (now (counts .exit)) (now (leftfilms .exit)) (now (leftamounts .exit))) (numbersOf r) ⌝ }
+    ensures { λ r. ⌜ PlanPromise
+        (callOf (rack .disks) (rack .slots .0) (rack .streams .0) (now (list .entry)))
+        (tables (now (films .entry)) (now (viewers .entry)) (now (counts .entry)) (now (leftfilms .entry)) (now (leftamounts .entry)))
+        (tables (now (films .exit)) (now (viewers .exit)) (now (counts .exit)) (now (leftfilms .exit)) (now (leftamounts .exit)))
+        (numbersOf r) ⌝ }
 {
     let judged = judge(
         rack,

@@ -60,7 +60,8 @@ pub(crate) fn store_viewers(
     requires { ⌜ (start + size ≤ length (now keys)) × (size ≤ slots) × (slots ≤ length (now viewers)) ⌝ }
     requires { ⌜ total (lessLast over (runOf (now keys) start size)) + over ≡ total (runOf (now keys) start size) ⌝ }
     requires { ⌜ total (lessLast over (runOf (now keys) start size)) ≤ 65535 ⌝ }
-    ensures { λ _. ⌜ now (viewers .exit) ≡ written (padded slots (map amountOf (lessLast over (runOf (now (keys .entry)) start size)))) (now (viewers .entry)) ⌝ }
+    ensures { λ _. ⌜ now (viewers .exit)
+        ≡ written (padded slots (map amountOf (lessLast over (runOf (now (keys .entry)) start size)))) (now (viewers .entry)) ⌝ }
 {
     let mut place = 0;
     while place < slots {

@@ -20,7 +20,10 @@ pub(crate) fn judge(
     leftamounts: &mut [u32],
 ) -> ReadAnswer
     requires { ⌜ Workspace (tablesOf (now films) (now viewers) (now counts) (now leftfilms) (now leftamounts)) ⌝ }
-    ensures { λ r. ⌜ Judged (now (text .entry)) (tablesOf (now (films .entry)) (now (viewers .entry)) (now (counts .entry)) (now (leftfilms .entry)) (now (leftamounts .entry))) (tablesOf (now (films .exit)) (now (viewers .exit)) (now (counts .exit)) (now (leftfilms .exit)) (now (leftamounts .exit))) r ⌝ }
+    ensures { λ r. ⌜ Judged (now (text .entry))
+        (tablesOf (now (films .entry)) (now (viewers .entry)) (now (counts .entry)) (now (leftfilms .entry)) (now (leftamounts .entry)))
+        (tablesOf (now (films .exit)) (now (viewers .exit)) (now (counts .exit)) (now (leftfilms .exit)) (now (leftamounts .exit)))
+        r ⌝ }
 {
     if text.len() > MOST_BYTES {
         return ReadAnswer::TextTooLong;
@@ -43,7 +46,10 @@ pub(crate) fn read_through(
     workleftamounts: &mut [u32],
 ) -> ReadAnswer
     requires { ⌜ Workspace (tablesOf (now workfilms) (now workviewers) (now workcounts) (now workleftfilms) (now workleftamounts)) ⌝ }
-    ensures { λ r. ⌜ ReadPromise (now (text .entry)) (tablesOf (now (films .entry)) (now (viewers .entry)) (now (counts .entry)) (now (leftfilms .entry)) (now (leftamounts .entry))) (tablesOf (now (films .exit)) (now (viewers .exit)) (now (counts .exit)) (now (leftfilms .exit)) (now (leftamounts .exit))) (numbersOf r) ⌝ }
+    ensures { λ r. ⌜ ReadPromise (now (text .entry))
+        (tablesOf (now (films .entry)) (now (viewers .entry)) (now (counts .entry)) (now (leftfilms .entry)) (now (leftamounts .entry)))
+        (tablesOf (now (films .exit)) (now (viewers .exit)) (now (counts .exit)) (now (leftfilms .exit)) (now (leftamounts .exit)))
+        (numbersOf r) ⌝ }
 {
     let answer = judge(
         text,

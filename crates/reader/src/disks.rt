@@ -21,7 +21,8 @@ pub(crate) fn disk_lines(
     counts: &mut [u32],
 ) -> DiskLines
     requires { ⌜ DisksReady start rack (now films) (now viewers) (now counts) ⌝ }
-    ensures { λ r. ⌜ DisksRead (now (text .entry)) start rack (now (films .entry)) (now (viewers .entry)) (now (counts .entry)) (now (films .exit)) (now (viewers .exit)) (now (counts .exit)) r ⌝ }
+    ensures { λ r. ⌜ DisksRead (now (text .entry)) start rack (now (films .entry)) (now (viewers .entry)) (now (counts .entry))
+        (now (films .exit)) (now (viewers .exit)) (now (counts .exit)) r ⌝ }
 {
     let slots = rack.slots.0 as usize;
     let mut here = start;

@@ -41,7 +41,10 @@ pub fn read(
     leftfilms: &mut [u32],
     leftamounts: &mut [u32],
 ) -> ReadAnswer
-    ensures { λ r. ⌜ ReadPromise (now (text .entry)) (tablesOf (now (films .entry)) (now (viewers .entry)) (now (counts .entry)) (now (leftfilms .entry)) (now (leftamounts .entry))) (tablesOf (now (films .exit)) (now (viewers .exit)) (now (counts .exit)) (now (leftfilms .exit)) (now (leftamounts .exit))) (numbersOf r) ⌝ }
+    ensures { λ r. ⌜ ReadPromise (now (text .entry))
+        (tablesOf (now (films .entry)) (now (viewers .entry)) (now (counts .entry)) (now (leftfilms .entry)) (now (leftamounts .entry)))
+        (tablesOf (now (films .exit)) (now (viewers .exit)) (now (counts .exit)) (now (leftfilms .exit)) (now (leftamounts .exit)))
+        (numbersOf r) ⌝ }
 {
     let mut workfilms = [0u32; 2048];
     let mut workviewers = [0u32; 2048];

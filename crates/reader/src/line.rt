@@ -82,7 +82,9 @@ pub(crate) fn disk_line(
     viewers: &mut [u32],
 ) -> PairsLine
     requires { ⌜ (length (now films) ≡ rack .slots .0) × (length (now viewers) ≡ rack .slots .0) ⌝ }
-    ensures { λ r. ⌜ LineRead (diskHead number) (diskAccepted (rack .slots .0) (rack .streams .0)) (now (text .entry)) cursor (now (films .entry)) (now (viewers .entry)) (now (films .exit)) (now (viewers .exit)) r ⌝ }
+    ensures { λ r. ⌜ LineRead (diskHead number)
+        (diskAccepted (rack .slots .0) (rack .streams .0)) (now (text .entry)) cursor (now (films .entry))
+        (now (viewers .entry)) (now (films .exit)) (now (viewers .exit)) r ⌝ }
 {
     let opened = eat_all(text, cursor, b"(disk ");
     let headed = eat_number(text, opened, number as u64);
@@ -107,7 +109,8 @@ pub(crate) fn left_line(
     amounts: &mut [u32],
 ) -> PairsLine
     requires { ⌜ (length (now films) ≡ 1024) × (length (now amounts) ≡ 1024) ⌝ }
-    ensures { λ r. ⌜ LineRead leftHead leftAccepted (now (text .entry)) cursor (now (films .entry)) (now (amounts .entry)) (now (films .exit)) (now (amounts .exit)) r ⌝ }
+    ensures { λ r. ⌜ LineRead leftHead leftAccepted (now (text .entry)) cursor (now (films .entry)) (now (amounts .entry))
+        (now (films .exit)) (now (amounts .exit)) r ⌝ }
 {
     let headed = eat_all(text, cursor, b"(left");
     let pairs = read_pairs(text, headed, films, amounts);
@@ -120,7 +123,8 @@ pub(crate) fn left_line(
 
 // The served line, with the two sums as they must be.
 pub(crate) fn served_line(text: &[u8], cursor: Cursor, served: u64, unserved: u64) -> Cursor
-    ensures { λ r. ⌜ place (now (text .entry)) r ≡ next (place (now (text .entry)) cursor) (λ u t. line (literal (servedLine served unserved)) (λ a. true) t) ⌝ }
+    ensures { λ r. ⌜ place (now (text .entry)) r
+        ≡ next (place (now (text .entry)) cursor) (λ u t. line (literal (servedLine served unserved)) (λ a. true) t) ⌝ }
 {
     let opened = eat_all(text, cursor, b"(served ");
     let first = eat_number(text, opened, served);

@@ -18,7 +18,10 @@ pub(crate) fn read_lines(
     leftamounts: &mut [u32],
 ) -> ReadAnswer
     requires { ⌜ Workspace (tablesOf (now films) (now viewers) (now counts) (now leftfilms) (now leftamounts)) ⌝ }
-    ensures { λ r. ⌜ Passed (now (text .entry)) (tablesOf (now (films .entry)) (now (viewers .entry)) (now (counts .entry)) (now (leftfilms .entry)) (now (leftamounts .entry))) (tablesOf (now (films .exit)) (now (viewers .exit)) (now (counts .exit)) (now (leftfilms .exit)) (now (leftamounts .exit))) r ⌝ }
+    ensures { λ r. ⌜ Passed (now (text .entry))
+        (tablesOf (now (films .entry)) (now (viewers .entry)) (now (counts .entry)) (now (leftfilms .entry)) (now (leftamounts .entry)))
+        (tablesOf (now (films .exit)) (now (viewers .exit)) (now (counts .exit)) (now (leftfilms .exit)) (now (leftamounts .exit)))
+        r ⌝ }
 {
     let first = rack_line(text, Cursor { at: 0, fits: true });
     let rack = first.rack;

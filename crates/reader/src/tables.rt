@@ -19,7 +19,8 @@ pub(crate) fn has_room(
     leftfilms: usize,
     leftamounts: usize,
 ) -> bool
-    ensures { λ r. ⌜ r ≡ (leb (plan .rack .disks * plan .rack .slots .0) (min films viewers) && (leb (plan .rack .disks) counts && leb (plan .left) (min leftfilms leftamounts))) ⌝ }
+    ensures { λ r. ⌜ r
+        ≡ (leb (plan .rack .disks * plan .rack .slots .0) (min films viewers) && (leb (plan .rack .disks) counts && leb (plan .left) (min leftfilms leftamounts))) ⌝ }
 {
     let disks = plan.rack.disks as usize;
     let slots = plan.rack.slots.0 as usize;
@@ -70,8 +71,17 @@ pub(crate) fn store(
     toleftfilms: &mut [u32],
     toleftamounts: &mut [u32],
 )
-    requires { ⌜ Roomy (plan .rack .disks * plan .rack .slots .0) (plan .rack .disks) (plan .left) (tablesOf (now films) (now viewers) (now counts) (now leftfilms) (now leftamounts)) × Roomy (plan .rack .disks * plan .rack .slots .0) (plan .rack .disks) (plan .left) (tablesOf (now tofilms) (now toviewers) (now tocounts) (now toleftfilms) (now toleftamounts)) ⌝ }
-    ensures { λ r. ⌜ tablesOf (now (tofilms .exit)) (now (toviewers .exit)) (now (tocounts .exit)) (now (toleftfilms .exit)) (now (toleftamounts .exit)) ≡ frontsCopied (plan .rack .disks * plan .rack .slots .0) (plan .rack .disks) (plan .left) (tablesOf (now (films .entry)) (now (viewers .entry)) (now (counts .entry)) (now (leftfilms .entry)) (now (leftamounts .entry))) (tablesOf (now (tofilms .entry)) (now (toviewers .entry)) (now (tocounts .entry)) (now (toleftfilms .entry)) (now (toleftamounts .entry))) ⌝ }
+    requires { ⌜ Roomy
+        (plan .rack .disks * plan .rack .slots .0) (plan .rack .disks) (plan .left)
+        (tablesOf (now films) (now viewers) (now counts) (now leftfilms) (now leftamounts)) × Roomy
+        (plan .rack .disks * plan .rack .slots .0) (plan .rack .disks) (plan .left)
+        (tablesOf (now tofilms) (now toviewers) (now tocounts) (now toleftfilms) (now toleftamounts)) ⌝ }
+    ensures { λ r. ⌜ tablesOf (now (tofilms .exit)) (now (toviewers .exit)) (now (tocounts .exit)) (now (toleftfilms .exit))
+        (now (toleftamounts .exit))
+        ≡ frontsCopied
+        (plan .rack .disks * plan .rack .slots .0) (plan .rack .disks) (plan .left)
+        (tablesOf (now (films .entry)) (now (viewers .entry)) (now (counts .entry)) (now (leftfilms .entry)) (now (leftamounts .entry)))
+        (tablesOf (now (tofilms .entry)) (now (toviewers .entry)) (now (tocounts .entry)) (now (toleftfilms .entry)) (now (toleftamounts .entry))) ⌝ }
 {
     let disks = plan.rack.disks as usize;
     let slots = plan.rack.slots.0 as usize;

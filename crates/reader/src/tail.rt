@@ -21,7 +21,8 @@ pub(crate) fn tail_lines(
     amounts: &mut [u32],
 ) -> TailLines
     requires { ⌜ TailReady start (now films) (now amounts) ⌝ }
-    ensures { λ r. ⌜ TailRead (now (text .entry)) start served (now (films .entry)) (now (amounts .entry)) (now (films .exit)) (now (amounts .exit)) r ⌝ }
+    ensures { λ r. ⌜ TailRead (now (text .entry)) start served (now (films .entry)) (now (amounts .entry)) (now (films .exit))
+        (now (amounts .exit)) r ⌝ }
 {
     let left = left_line(text, start, films, amounts);
     let count = left.count;

@@ -36,7 +36,9 @@ pub(crate) fn room_stated(
     left: u32,
 ) -> bool
     requires { ⌜ rackAccepted (rack .disks) (rack .slots .0) (rack .streams .0) ≡ true ⌝ }
-    ensures { λ r. ⌜ r ≡ roomStated (callOf rack (now (films .entry)) (now (viewers .entry)) (now (counts .entry)) (now (leftfilms .entry)) (now (leftamounts .entry)) left) ⌝ }
+    ensures { λ r. ⌜ r
+        ≡ roomStated
+        (callOf rack (now (films .entry)) (now (viewers .entry)) (now (counts .entry)) (now (leftfilms .entry)) (now (leftamounts .entry)) left) ⌝ }
 {
     let disks = rack.disks as usize;
     let slots = rack.slots.0 as usize;
@@ -52,7 +54,8 @@ pub(crate) fn room_stated(
 // Whether one disk's places hold at most as many copies as slots, accepted ones, and zero entries behind them.
 fn disk_formed(slots: u32, streams: u32, count: u32, films: &[u32], viewers: &[u32]) -> bool
     requires { ⌜ (slots ≤ length (now films)) × (slots ≤ length (now viewers)) ⌝ }
-    ensures { λ r. ⌜ r ≡ (unusedZero slots count (now (films .entry)) (now (viewers .entry)) && diskAccepted slots streams (entries (take count (now (films .entry))) (take count (now (viewers .entry))))) ⌝ }
+    ensures { λ r. ⌜ r
+        ≡ (unusedZero slots count (now (films .entry)) (now (viewers .entry)) && diskAccepted slots streams (entries (take count (now (films .entry))) (take count (now (viewers .entry))))) ⌝ }
 {
     if slots < count {
         return false;
@@ -72,7 +75,9 @@ fn disk_formed(slots: u32, streams: u32, count: u32, films: &[u32], viewers: &[u
 fn disks_formed(rack: Rack, films: &[u32], viewers: &[u32], counts: &[u32]) -> bool
     requires { ⌜ rackAccepted (rack .disks) (rack .slots .0) (rack .streams .0) ≡ true ⌝ }
     requires { ⌜ CopyRoom (rack .disks) (rack .slots .0) (now films) (now viewers) (now counts) ⌝ }
-    ensures { λ r. ⌜ r ≡ disksFormed (rack .disks) (rack .slots .0) (rack .streams .0) (now (films .entry)) (now (viewers .entry)) (now (counts .entry)) ⌝ }
+    ensures { λ r. ⌜ r
+        ≡ disksFormed (rack .disks) (rack .slots .0) (rack .streams .0) (now (films .entry)) (now (viewers .entry))
+        (now (counts .entry)) ⌝ }
 {
     let disks = rack.disks as usize;
     let slots = rack.slots.0;
@@ -107,7 +112,9 @@ pub(crate) fn formed(
 ) -> bool
     requires { ⌜ rackAccepted (rack .disks) (rack .slots .0) (rack .streams .0) ≡ true ⌝ }
     requires { ⌜ roomStated (callOf rack (now films) (now viewers) (now counts) (now leftfilms) (now leftamounts) left) ≡ true ⌝ }
-    ensures { λ r. ⌜ r ≡ wellFormedCall (callOf rack (now (films .entry)) (now (viewers .entry)) (now (counts .entry)) (now (leftfilms .entry)) (now (leftamounts .entry)) left) ⌝ }
+    ensures { λ r. ⌜ r
+        ≡ wellFormedCall
+        (callOf rack (now (films .entry)) (now (viewers .entry)) (now (counts .entry)) (now (leftfilms .entry)) (now (leftamounts .entry)) left) ⌝ }
 {
     if !disks_formed(rack, films, viewers, counts) {
         return false;

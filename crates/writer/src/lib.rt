@@ -36,7 +36,9 @@ pub fn write(
     left: u32,
     text: &mut [u8],
 ) -> Written
-    ensures { λ r. ⌜ WritePromise (callOf rack (now (films .entry)) (now (viewers .entry)) (now (counts .entry)) (now (leftfilms .entry)) (now (leftamounts .entry)) left) (now (text .entry)) (now (text .exit)) (numbersOf r) ⌝ }
+    ensures { λ r. ⌜ WritePromise
+        (callOf rack (now (films .entry)) (now (viewers .entry)) (now (counts .entry)) (now (leftfilms .entry)) (now (leftamounts .entry)) left)
+        (now (text .entry)) (now (text .exit)) (numbersOf r) ⌝ }
 {
     if !accepted(rack) {
         return Written::RackOutOfRange;

@@ -68,7 +68,9 @@ pub(crate) fn put_disk(
 ) -> usize
     requires { ⌜ length (now films) ≡ length (now viewers) ⌝ }
     requires { ⌜ at + length (ended (diskLine number (entries (now films) (now viewers)))) < 2 ^ 64 ⌝ }
-    ensures { λ next. ⌜ Put at (ended (diskLine number (entries (now (films .entry)) (now (viewers .entry))))) (now (out .entry)) (now (out .exit)) next ⌝ }
+    ensures { λ next. ⌜ Put at
+        (ended (diskLine number (entries (now (films .entry)) (now (viewers .entry))))) (now (out .entry))
+        (now (out .exit)) next ⌝ }
 {
     let number_at = put_word(out, at, b"(disk ");
     let pairs_at = put_number(out, number_at, number);

@@ -29,8 +29,12 @@ fn put_disks(
     requires { ⌜ rackAccepted (rack .disks) (rack .slots .0) (rack .streams .0) ≡ true ⌝ }
     requires { ⌜ CopyRoom (rack .disks) (rack .slots .0) (now films) (now viewers) (now counts) ⌝ }
     requires { ⌜ unusedZeroFrom (rackOf (rack .disks) (rack .slots .0) (rack .streams .0)) (now films) (now viewers) (now counts) ≡ true ⌝ }
-    requires { ⌜ at + length (diskLines 1 (copiesFrom (rackOf (rack .disks) (rack .slots .0) (rack .streams .0)) (now films) (now viewers) (now counts))) < 2 ^ 64 ⌝ }
-    ensures { λ next. ⌜ Put at (diskLines 1 (copiesFrom (rackOf (rack .disks) (rack .slots .0) (rack .streams .0)) (now (films .entry)) (now (viewers .entry)) (now (counts .entry)))) (now (out .entry)) (now (out .exit)) next ⌝ }
+    requires { ⌜ at + length
+        (diskLines 1 (copiesFrom (rackOf (rack .disks) (rack .slots .0) (rack .streams .0)) (now films) (now viewers) (now counts)))
+        < 2 ^ 64 ⌝ }
+    ensures { λ next. ⌜ Put at
+        (diskLines 1 (copiesFrom (rackOf (rack .disks) (rack .slots .0) (rack .streams .0)) (now (films .entry)) (now (viewers .entry)) (now (counts .entry))))
+        (now (out .entry)) (now (out .exit)) next ⌝ }
 {
     let disks = rack.disks as usize;
     let places = rack.slots.0 as usize;
@@ -63,7 +67,9 @@ pub(crate) fn put_text(
     left: u32,
 ) -> usize
     requires { ⌜ Writable (callOf rack (now films) (now viewers) (now counts) (now leftfilms) (now leftamounts) left) ⌝ }
-    ensures { λ next. ⌜ Put 0 (textOf (planOf (callOf rack (now (films .entry)) (now (viewers .entry)) (now (counts .entry)) (now (leftfilms .entry)) (now (leftamounts .entry)) left))) (now (out .entry)) (now (out .exit)) next ⌝ }
+    ensures { λ next. ⌜ Put 0
+        (textOf (planOf (callOf rack (now (films .entry)) (now (viewers .entry)) (now (counts .entry)) (now (leftfilms .entry)) (now (leftamounts .entry)) left)))
+        (now (out .entry)) (now (out .exit)) next ⌝ }
 {
     let disks = rack.disks as usize;
     let slots = rack.slots.0 as usize;
@@ -88,7 +94,9 @@ pub(crate) fn text_length(
     left: u32,
 ) -> usize
     requires { ⌜ Writable (callOf rack (now films) (now viewers) (now counts) (now leftfilms) (now leftamounts) left) ⌝ }
-    ensures { λ r. ⌜ r ≡ length (textOf (planOf (callOf rack (now (films .entry)) (now (viewers .entry)) (now (counts .entry)) (now (leftfilms .entry)) (now (leftamounts .entry)) left))) ⌝ }
+    ensures { λ r. ⌜ r
+        ≡ length
+        (textOf (planOf (callOf rack (now (films .entry)) (now (viewers .entry)) (now (counts .entry)) (now (leftfilms .entry)) (now (leftamounts .entry)) left))) ⌝ }
 {
     let mut scratch = [0u8; 1];
     put_text(
