@@ -9,6 +9,8 @@ import bisect
 import sys
 from collections import Counter
 
+from sliding_window import window
+
 CASES = 25_000
 BITS = (1 << 64) - 1
 
@@ -160,17 +162,6 @@ def refusal(n, k, load, data, copies, counts, lefts):
             return 6
         seen.add(film)
     return 0
-
-
-def window(films, k, load):
-    """The window's first place and the place after its last."""
-    for end in range(1, min(k, len(films)) + 1):
-        if sum(d for d, _ in films[:end]) >= load:
-            return 0, end
-    for start in range(1, len(films) - k + 1):
-        if sum(d for d, _ in films[start : start + k]) >= load:
-            return start, start + k
-    return max(len(films) - k, 0), len(films)
 
 
 def planned(n, k, load, data):

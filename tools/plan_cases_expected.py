@@ -6,26 +6,17 @@ Run it from anywhere; it writes below crates/plan_cases. The results that docume
 import pathlib
 import struct
 
+from sliding_window import window
+
 ROOT = pathlib.Path(__file__).resolve().parent.parent
 CRATE = ROOT / "crates" / "plan_cases"
 
 
-def window(items, slots, load):
-    """The window of one disk: start and size, from a list of (demand, film) in 01's order."""
-    for size in range(1, min(slots, len(items)) + 1):
-        if sum(demand for demand, _ in items[:size]) >= load:
-            return 0, size
-    for start in range(1, len(items) - slots + 1):
-        if sum(demand for demand, _ in items[start:start + slots]) >= load:
-            return start, slots
-    return max(0, len(items) - slots), min(slots, len(items))
-
-
 def fill(items, slots, load):
     """The copies of one disk, and the list after it."""
-    start, size = window(items, slots, load)
-    chosen = items[start:start + size]
-    rest = items[:start] + items[start + size:]
+    start, end = window(items, slots, load)
+    chosen = items[start:end]
+    rest = items[:start] + items[end:]
     copies = [(film, demand) for demand, film in chosen]
     over = sum(demand for demand, _ in chosen) - load
     if over >= 0 and chosen:
