@@ -4,7 +4,6 @@ use Rattle.placement.specs.Tables.{Tables}
 use Rattle.placement.specs.Planning.{Numbers}
 use Rattle.plan_text.specs.WriteCall.{WriteCall, WriteNumbers}
 use Rattle.plan_text.specs.ReadCall.{ReadNumbers}
-use Rattle.reader.specs.declared.PlanRead.{PlanRead}
 use Rattle.jugfjord.specs.declared.planning.Planned.{Planned}
 use Rattle.jugfjord.specs.declared.reading.ReadPlan.{ReadPlan}
 use Rattle.jugfjord.specs.declared.writing.WrittenNumbers.{WrittenNumbers}
@@ -39,17 +38,4 @@ readNumbers r = record {
   served = r .served;
   unserved = r .unserved;
   left = r .left;
-}
-
--- Of a plan that was read.
-abbrev pub planNumbers : PlanRead → ReadNumbers
-planNumbers p = record {
-  refusal = 0;
-  second = 0;
-  disks = p .rack .disks;
-  slots = p .rack .slots .0;
-  streams = p .rack .streams .0;
-  served = p .served;
-  unserved = p .unserved;
-  left = p .left;
 }

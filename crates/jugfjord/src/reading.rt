@@ -5,7 +5,8 @@ ghost use mathlib.Core.Path.{_≡_};
 ghost use Rattle.placement.specs.Tables.{tables};
 ghost use Rattle.reader.specs.Answers.{numbersOf, refusal};
 ghost use Rattle.reader.specs.Promise.{ReadPromise};
-ghost use Rattle.jugfjord.specs.Numbers.{readNumbers, planNumbers};
+ghost use Rattle.reader.specs.declared.ReadAnswer.the-variants.{Plan};
+ghost use Rattle.jugfjord.specs.Numbers.{readNumbers};
 
 // `struct jugfjord_read_plan` of the header.
 #[repr(C)]
@@ -38,7 +39,7 @@ fn declined(number: u32, second: u32) -> ReadPlan
 
 // The numbers of a plan that was read.
 fn accepted(plan: PlanRead) -> ReadPlan
-    ensures { λ r. ⌜ readNumbers r ≡ planNumbers plan ⌝ }
+    ensures { λ r. ⌜ readNumbers r ≡ numbersOf (Plan plan) ⌝ }
 {
     let rack = plan.rack;
     ReadPlan {
