@@ -53,7 +53,7 @@ pub plan-total :
 plan-total disks records usable = list-total disks (listOf records) usable ∙ listOf-total records
 
 -- Each disk of the plan serves at most its load.
-pub plan-loads : (disks : List Disk) (list : List Item) → Usable disks → WithinLoads disks (placement disks list)
+plan-loads : (disks : List Disk) (list : List Item) → Usable disks → WithinLoads disks (placement disks list)
 plan-loads [] list usable = tt
 plan-loads (d ∷ ds) list usable =
     (copies-load d list (usable .0) (usable .1), plan-loads ds (listAfter d list) (usable .2))
@@ -75,7 +75,7 @@ step-film d list f someSlots someLoad =
     films = within (windowOf d list) list
 
 -- The plan gives no film more viewers than the list has for it.
-pub plan-viewers : (disks : List Disk) (list : List Item) (f : ℕ) → Usable disks → viewersOf f (placement disks list) ≤ amountFor f list
+plan-viewers : (disks : List Disk) (list : List Item) (f : ℕ) → Usable disks → viewersOf f (placement disks list) ≤ amountFor f list
 plan-viewers [] list f usable = omega arith
 plan-viewers (d ∷ ds) list f usable =
     omega (arith, step-film d list f (usable .0) (usable .1), plan-viewers ds (listAfter d list) f (usable .2))

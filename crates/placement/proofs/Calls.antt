@@ -1,78 +1,117 @@
--- What a verdict of `planned` says of a call: its rack is in range, and its records are accepted.
-use mathlib.Core.Path.{_≡_, refl, ap}
-use mathlib.Core.Bool.{true, _&&_}
-use mathlib.Core.List.{List, []}
-use Prim.Native.Nat.{ℕ, zero, suc, _%_, _≤_}
-use borrow.Author.Tests.{leb-true}
-use lib.Dec.{leb, eqb}
+-- All that holds of a call that planning does not refuse: its plan is well formed, and its numbers are bounded.
+use mathlib.Core.Path.{_≡_}
+use mathlib.Core.Bool.{true}
+use mathlib.Core.List.{List, [], _∷_}
+use Prim.Native.Nat.{_*_, _≤_}
+use native.Mathlib.Omega.{arith}
 use lib.ListN.{length}
-use Rattle.placement.specs.Rack.{inRange, rackAccepted, mostDisks, mostSlots, mostLoad, mostRecords}
-use Rattle.placement.specs.Records.{Verdict, planned, refused, unless, judgeRecords, recordsFrom}
-use Rattle.placement.specs.Tables.{Tables}
-use Rattle.placement.specs.Planning.{Call, recordCount, recordsIn, roomFor, verdict}
-use Rattle.placement.specs.WellFormed.{Accepted, CallInRange}
-use Rattle.placement.proofs.Verdicts.{unless-planned, both-true, inRange-bounds, records-accepted}
+use Rattle.refusal.specs.Verdict.{Verdict, given}
+use Rattle.refusal.proofs.Verdicts.{unless-given}
+use Rattle.placement.specs.Items.{Item, amountOf, total, listOf}
+use Rattle.placement.specs.Rack.{rackAccepted, mostRecords, mostDemand}
+use Rattle.placement.specs.Method.{placement, remaining, leftOf}
+use Rattle.placement.specs.Records.{recordCount, shapeJudged, recordsJudged}
+use Rattle.placement.specs.Tables.{Tables, roomFor}
+use Rattle.placement.specs.Plan.{disksAccepted, leftAccepted, servedOf, unservedOf}
+use Rattle.placement.specs.Planning.{Call, recordsIn, planIn, roomJudged, verdict}
+use Rattle.placement.specs.Promise.{Distinct}
+use Rattle.placement.specs.WellFormed.{Each, Demanded, RecordsAccepted, Entry, Bounded, CallWellFormed}
+use Rattle.placement.proofs.Conjunctions.{and-holds}
+use Rattle.placement.proofs.Racks.{accepted-allLoads}
+use Rattle.placement.proofs.Sums.{length-sum, one}
+use Rattle.placement.proofs.Films.{Usable}
+use Rattle.placement.proofs.Listed.{listOf-distinct, sumBy-listOf-le}
+use Rattle.placement.proofs.BestSharing.{plan-total}
+use Rattle.placement.proofs.Each.{each-map, each-byFilm}
+use Rattle.placement.proofs.Records.{records-length, shape-given, records-accepted}
+use Rattle.placement.proofs.Formed.{disks-served, left-accepted}
+use Rattle.placement.proofs.ByFilm.{sumBy-byFilm, byFilm-length, byFilm-ascending}
+use Rattle.placement.proofs.WellFormed.{accepted-usable, listOf-entries, placement-accepted, placement-windows, remaining-entries, remaining-distinct, remaining-count}
 
--- n records from a place on are n.
-recordsFrom-length : (bytes : List ℕ) (i n : ℕ) → length (recordsFrom bytes i n) ≡ n
-recordsFrom-length bytes i zero = refl
-recordsFrom-length bytes i (suc n) = ap suc (recordsFrom-length bytes (suc i) n)
+-- What a call that is not refused has: an accepted rack, not too many records, tables with room, and accepted records.
+pub call-judged :
+    (c : Call) (t : Tables) → verdict c t ≡ given tt
+    → (rackAccepted (c .rack) ≡ true) × (recordCount (c .list) ≤ mostRecords) × (roomFor (c .rack) (recordCount (c .list)) t ≡ true)
+    × RecordsAccepted (recordsIn c)
+call-judged c t e =
+    let fromRecords : Verdict (Unit {0}) = recordsJudged (c .list) (given tt) in
+    let fromRoom : Verdict (Unit {0}) = roomJudged (c .rack) (recordCount (c .list)) t fromRecords in
+    let rack = unless-given (rackAccepted (c .rack)) 1 0 (shapeJudged (c .list) fromRoom) tt e in
+    let shape = shape-given (c .list) fromRoom tt (rack .1) in
+    let room = unless-given (roomFor (c .rack) (recordCount (c .list)) t) 7 0 fromRecords tt (shape .1) in
+    (rack .0, shape .0, room .0, records-accepted (given tt) tt (recordsIn c) (room .1))
 
--- A list has a record for each eight bytes.
-pub recordsIn-length : (c : Call) → length (recordsIn c) ≡ recordCount c
-recordsIn-length c = recordsFrom-length (c .list) 0 (recordCount c)
+-- Records sum to at most the largest demand for each.
+total-demanded : (records : List Item) → Each Demanded records → total records ≤ mostDemand * length records
+total-demanded [] demanded = omega arith
+total-demanded (x ∷ xs) demanded = omega (arith, demanded .0 .amountMost, total-demanded xs (demanded .1))
 
-module _ (c : Call) (t : Tables) where
-  -- The verdict from the test of the room on, from that of the count on, and from that of the length on.
-  abbrev fromRoom : Verdict
-  fromRoom = unless (roomFor c t) (refused 7 0) (judgeRecords [] 1 (recordsIn c))
+-- A call with an accepted rack and at most 1,024 accepted records has a well-formed plan with bounded numbers.
+accepted-wellFormed :
+    (c : Call) → rackAccepted (c .rack) ≡ true → recordCount (c .list) ≤ mostRecords → RecordsAccepted (recordsIn c) → CallWellFormed c
+accepted-wellFormed c rack few accepted = record {
+  rack = rack;
+  recordsMost = few;
+  accepted = accepted;
+  plan = and-holds (rackAccepted (c .rack)) _ rack (and-holds (disksAccepted (c .rack) (placement (c .rack) list)) _ disks left);
+  leftMost = count;
+  bounds = bounds;
+  servedMost = omega (arith, bounds .served, accepted-allLoads (c .rack) rack);
+  demandMost = demand;
+  unservedMost = omega (arith, bounds .unserved, demand);
+}
+  where
+    list : List Item
+    list = listOf (recordsIn c)
 
-  abbrev fromCount : Verdict
-  fromCount = unless (leb (recordCount c) mostRecords) (refused 3 0) fromRoom
+    usable : Usable (c .rack)
+    usable = accepted-usable (c .rack) rack
 
-  abbrev fromLength : Verdict
-  fromLength = unless (eqb (length (c .list) % 8) 0) (refused 2 0) fromCount
+    entries : Each (Entry mostDemand) list
+    entries = listOf-entries (recordsIn c) accepted
 
-  module _ (e : verdict c t ≡ planned) where
-    -- The rack is accepted.
-    rack-passed : (rackAccepted (c .disks) (c .slots) (c .streams) ≡ true) × (fromLength ≡ planned)
-    rack-passed = unless-planned (rackAccepted (c .disks) (c .slots) (c .streams)) 1 0 fromLength e
+    distinct : Distinct list
+    distinct = listOf-distinct (recordsIn c) (accepted .distinct)
 
-    -- There are not too many records.
-    count-passed : (leb (recordCount c) mostRecords ≡ true) × (fromRoom ≡ planned)
-    count-passed =
-        unless-planned (leb (recordCount c) mostRecords) 3 0 fromRoom
-        (unless-planned (eqb (length (c .list) % 8) 0) 2 0 fromCount (rack-passed .1) .1)
+    disks : disksAccepted (c .rack) (placement (c .rack) list) ≡ true
+    disks = placement-accepted (c .rack) list usable entries distinct
 
-    -- The records of a call that is planned are accepted.
-    pub planned-accepted : Accepted (recordsIn c)
-    planned-accepted =
-        records-accepted (recordsIn c)
-        (unless-planned (roomFor c t) 7 0 (judgeRecords [] 1 (recordsIn c)) (count-passed .1) .1)
+    remain : Each (Entry mostDemand) (remaining (c .rack) list)
+    remain = remaining-entries (c .rack) list usable entries
 
-    -- Its rack and the number of its records are in range.
-    pub planned-inRange : CallInRange c
-    planned-inRange = record {
-      disksLeast = disks .0;
-      disksMost = disks .1;
-      slotsLeast = slots .0;
-      slotsMost = slots .1;
-      streamsLeast = streams .0;
-      streamsMost = streams .1;
-      recordsMost = leb-true (recordCount c) mostRecords (count-passed .0);
+    count : length (leftOf (c .rack) list) ≤ recordCount (c .list)
+    count =
+        omega (
+          arith,
+          remaining-count (c .rack) list usable,
+          byFilm-length (remaining (c .rack) list),
+          length-sum list,
+          length-sum (recordsIn c),
+          sumBy-listOf-le one (recordsIn c),
+          records-length (c .list),
+        )
+
+    left : leftAccepted (leftOf (c .rack) list) ≡ true
+    left =
+        left-accepted (leftOf (c .rack) list) (omega (arith, count, few))
+        (byFilm-ascending (remaining (c .rack) list)
+        (each-map (Entry mostDemand) (λ x. 1 ≤ x .film) (remaining (c .rack) list) (λ x entry. entry .filmLeast) remain)
+        (remaining-distinct (c .rack) list usable distinct))
+        (each-byFilm (Entry mostDemand) (remaining (c .rack) list) remain)
+
+    bounds : Bounded (c .rack) (recordsIn c) (servedOf (planIn c)) (unservedOf (planIn c))
+    bounds = record {
+      served = disks-served (c .rack) (placement (c .rack) list) disks;
+      unserved = omega (arith, plan-total (c .rack) (recordsIn c) usable, sumBy-byFilm amountOf (remaining (c .rack) list));
+      demand = total-demanded (recordsIn c) (accepted .demanded);
+      windows = placement-windows (c .rack) list usable entries;
     }
-      where
-        outer : (inRange mostDisks (c .disks) ≡ true) × ((inRange mostSlots (c .slots) && inRange mostLoad (c .streams)) ≡ true)
-        outer = both-true _ _ (rack-passed .0)
 
-        inner : (inRange mostSlots (c .slots) ≡ true) × (inRange mostLoad (c .streams) ≡ true)
-        inner = both-true _ _ (outer .1)
+    demand : total (recordsIn c) ≤ 1024000000
+    demand = omega (arith, bounds .demand, records-length (c .list), few)
 
-        disks : (1 ≤ c .disks) × (c .disks ≤ mostDisks)
-        disks = inRange-bounds mostDisks (c .disks) (outer .0)
-
-        slots : (1 ≤ c .slots) × (c .slots ≤ mostSlots)
-        slots = inRange-bounds mostSlots (c .slots) (inner .0)
-
-        streams : (1 ≤ c .streams) × (c .streams ≤ mostLoad)
-        streams = inRange-bounds mostLoad (c .streams) (inner .1)
+-- All that holds of a call that planning does not refuse.
+pub call-wellFormed : (c : Call) (t : Tables) → verdict c t ≡ given tt → CallWellFormed c
+call-wellFormed c t e =
+    let judged = call-judged c t e in
+    accepted-wellFormed c (judged .0) (judged .1) (judged .3)

@@ -1,39 +1,21 @@
 -- The cases of document 01, proved by computation on the definitions.
-use Prim.Native.Nat.{ℕ, _+_, _-_, _*_}
 use mathlib.Core.Path.{_≡_, refl}
-use mathlib.Core.List.{map}
-use lib.ListN.{length}
-use Rattle.placement.specs.Items.{wanted}
-use Rattle.placement.specs.Rack.{allSlots}
-use Rattle.placement.specs.Planning.{planning, tablesAfter, disksIn, recordsIn}
-use Rattle.placement.specs.Cases.{Row, cases, caseA, caseC, caseE, callOf, outcome, expectedOf}
+use mathlib.Core.List.{[], _∷_, map}
+use Rattle.placement.specs.Items.{_∶_}
+use Rattle.placement.specs.Rack.{disk, leastSlots}
+use Rattle.placement.specs.Tables.{entryOf}
+use Rattle.placement.specs.Planning.{planning, tablesAfter}
+use Rattle.placement.specs.Cases.{rows, outcome, expectedOf}
 
 -- Every row's outcome, the answer and all lent tables, is the one expected.
-pub cases-hold : map outcome cases ≡ map expectedOf cases
+pub cases-hold : map outcome rows ≡ map expectedOf rows
 unfolding planning tablesAfter
 cases-hold = refl
 
--- 4kU² is (S − kU)².
-abbrev pub SquareMet : Row → Type 0
-SquareMet r =
-    4 * (r .slots * (u * u)) ≡ (s - r .slots * u) * (s - r .slots * u)
-  where
-    s : ℕ
-    s = outcome r .numbers .served
+-- An entry in numbers: film 11 with 3 viewers is 3 × 2³² + 11.
+pub entry-holds : entryOf (11 ∶ 3) ≡ 12884901899
+entry-holds = refl
 
-    u : ℕ
-    u = outcome r .numbers .unserved
-
--- Films wanted and disks are the slots and this much more.
-abbrev pub SlotsShort : Row → ℕ → Type 0
-SlotsShort r n =
-    wanted (recordsIn (callOf r)) + length (disksIn (callOf r)) ≡ allSlots (disksIn (callOf r)) + n
-
--- A and C meet demand 3's square with equality.
-pub squares-met : SquareMet caseA × SquareMet caseC
-unfolding planning
-squares-met = (refl, refl)
-
--- E has exactly enough slots for U = 0; C is one short.
-pub slots-short : SlotsShort caseE 1 × SlotsShort caseC 2
-slots-short = (refl, refl)
+-- The smallest slots of unequal disks.
+pub least-holds : leastSlots (disk 3 9 ∷ disk 2 6 ∷ disk 4 12 ∷ []) ≡ 2
+least-holds = refl

@@ -1,14 +1,15 @@
 -- Demand 3, whole: for every list of disks of one ratio by ascending slots, and from that for document 01's rack.
-use mathlib.Core.Path.{_≡_, refl, sym, _∙_}
+use mathlib.Core.Path.{_≡_, refl, sym, subst, _∙_}
+use mathlib.Core.Bool.{true}
 use mathlib.Core.List.{List, [], _∷_}
-use Prim.Native.Nat.{ℕ, zero, suc, _+_, _-_, _*_, _≤_}
-use native.Mathlib.Nat.{zero-mul, suc-mul}
+use Prim.Native.Nat.{ℕ, zero, suc, _+_, _-_, _≤_}
 use native.Mathlib.Omega.{arith}
 use lib.ListN.{length, replicate}
 use Rattle.placement.specs.Items.{Item, total, wanted, listOf}
-use Rattle.placement.specs.Rack.{Disk, disk, rackOf, allSlots, allLoads}
+use Rattle.placement.specs.Rack.{Disk, disk, rackOf, allLoads, firstSlots, firstLoad, leastSlots, rackAccepted}
 use Rattle.placement.specs.Method.{placement, served, unserved}
 use Rattle.placement.specs.Promise.{Distinct, Fitting, Demand3, UniformFrom, Uniform}
+use Rattle.placement.proofs.Racks.{rack-least, accepted-disks, accepted-slots, accepted-load, accepted-equal}
 use Rattle.placement.proofs.Sums.{length-sum, one}
 use Rattle.placement.proofs.Order.{list-ascending}
 use Rattle.placement.proofs.Films.{Usable}
@@ -18,7 +19,7 @@ use Rattle.placement.proofs.BestSharing.{best-sharing, own-sharing, pla
 use Rattle.placement.proofs.Served.{Shared, shared, all-served}
 
 -- The films of the list are the films wanted.
-pub listOf-length : (records : List Item) → length (listOf records) ≡ wanted records
+listOf-length : (records : List Item) → length (listOf records) ≡ wanted records
 listOf-length records = length-sum (listOf records) ∙ sumBy-listOf one records
 
 -- Disks of one ratio can be used.
@@ -68,21 +69,12 @@ demand3 k l disks records uniform distinct = record {
         (omega (arith, fitting .slots, listOf-length records))
 
 -- A rack of equal disks is of one ratio.
-pub rack-uniform : (n k l : ℕ) → 1 ≤ k → 1 ≤ l → Uniform k l (rackOf n k l)
+rack-uniform : (n k l : ℕ) → 1 ≤ k → 1 ≤ l → Uniform k l (rackOf n k l)
 rack-uniform n k l someSlots someLoad = record { someSlots = someSlots; someLoad = someLoad; ratio = go n }
   where
     go : (n : ℕ) → UniformFrom k l k (replicate n (disk k l))
     go zero = tt
     go (suc n) = (omega arith, refl, go n)
-
--- All slots of a rack are N × k, and all disks' streams N × L.
-pub rack-slots : (n k l : ℕ) → allSlots (rackOf n k l) ≡ n * k
-rack-slots zero k l = omega (arith, zero-mul k)
-rack-slots (suc n) k l = omega (arith, suc-mul n k, rack-slots n k l)
-
-pub rack-loads : (n k l : ℕ) → allLoads (rackOf n k l) ≡ n * l
-rack-loads zero k l = omega (arith, zero-mul l)
-rack-loads (suc n) k l = omega (arith, suc-mul n l, rack-loads n k l)
 
 -- Demand 3 for 01's rack.
 pub demand3-rack :
@@ -91,3 +83,20 @@ pub demand3-rack :
     (served (placement (rackOf n k l) (listOf records))) (unserved (rackOf n k l) (listOf records))
 demand3-rack n k l records someSlots someLoad distinct =
     demand3 k l (rackOf n k l) records (rack-uniform n k l someSlots someLoad) distinct
+
+-- Demand 3 for every accepted rack, with k its smallest slots.
+pub demand3-accepted :
+    (rack : List Disk) (records : List Item) → rackAccepted rack ≡ true → Distinct records
+    → Demand3 (leastSlots rack) rack records (placement rack (listOf records)) (served (placement rack (listOf records)))
+    (unserved rack (listOf records))
+demand3-accepted rack records e distinct =
+    subst
+    (λ (r : List Disk). Demand3 (leastSlots r) r records (placement r (listOf records)) (served (placement r (listOf records)))
+    (unserved r (listOf records))) (sym (accepted-equal rack e))
+    (subst
+    (λ (k : ℕ). Demand3 k equal records (placement equal (listOf records)) (served (placement equal (listOf records)))
+    (unserved equal (listOf records))) (sym (rack-least (length rack) (firstSlots rack) (firstLoad rack) (accepted-disks rack e .0)))
+    (demand3-rack (length rack) (firstSlots rack) (firstLoad rack) records (accepted-slots rack e .0) (accepted-load rack e .0) distinct))
+  where
+    equal : List Disk
+    equal = rackOf (length rack) (firstSlots rack) (firstLoad rack)

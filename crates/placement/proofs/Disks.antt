@@ -44,7 +44,7 @@ pub stored-reaching :
 stored-reaching load xs h = rw (le-ltb (total xs) load h)
 
 -- What is stored and what remains make up the window.
-pub stored-total :
+stored-total :
     (load : ℕ) (xs : List Item) → 1 ≤ load → (load ≤ total xs → total (allButLast xs) < load)
     → total (stored load xs) + remainder load xs .amount ≡ total xs
 stored-total load xs some needed = by-order (total xs) load below reaching

@@ -1,43 +1,35 @@
--- One disk's step on a list of entries: its copies are well formed, and the next list holds entries again.
-use mathlib.Core.Path.{sym, ap, _∙_, subst}
-use mathlib.Core.Bool.{cond}
-use mathlib.Core.List.{List, [], _∷_}
+-- One disk's step on a list of entries: its copies are accepted, and the next list holds entries again.
+use mathlib.Core.Path.{_≡_, sym, ap, _∙_, subst}
+use mathlib.Core.Bool.{true, cond}
+use mathlib.Core.List.{List}
 use Prim.Native.Nat.{ℕ, _-_, _≤_, _<_}
 use native.Mathlib.Omega.{arith}
 use lib.Dec.{leb}
 use lib.ListN.{length, length-map}
-use Rattle.placement.specs.Items.{Item, item, total, filmOf, oneIf}
+use Rattle.placement.specs.Items.{Item, item, total, amountOf, filmOf, oneIf}
 use Rattle.placement.specs.Rack.{Disk}
 use Rattle.placement.specs.Window.{within, outside, windowOf}
 use Rattle.placement.specs.Disk.{allButLast, lastFilm, stored, remainder, copiesOf, listAfter}
 use Rattle.placement.specs.Promise.{Distinct}
-use Rattle.placement.specs.WellFormed.{Each, Entry, DiskWellFormed}
+use Rattle.placement.specs.Plan.{diskAccepted}
+use Rattle.placement.specs.WellFormed.{Each, Entry}
 use Rattle.placement.proofs.Tests.{by-order, chosen, passed}
 use Rattle.placement.proofs.Sums.{length-sum, one}
-use Rattle.placement.proofs.Windows.{window-cases, window-size}
-use Rattle.placement.proofs.Disks.{some-film, stored-below, stored-reaching, stored-films, copies-load, after-sum, before-sum}
+use Rattle.placement.proofs.Windows.{window-cases, window-size, window-last-needed}
+use Rattle.placement.proofs.Disks.{sumBy-last, some-film, stored-below, stored-reaching, stored-films, copies-load, after-sum, before-sum}
 use Rattle.placement.proofs.Steps.{films-length}
 use Rattle.placement.proofs.Films.{occurrences-same}
-use Rattle.placement.proofs.LastFilm.{lastViewers, last-needed, lastViewers-bounds, rest-most}
+use Rattle.placement.proofs.Formed.{disk-accepted}
 use Rattle.placement.proofs.Each.{each-append, each-within, each-outside, each-allButLast, each-last, each-enter}
 
--- Entries of a list that sums to at most n are entries with numbers up to n.
-pub entries-total : (most n : ℕ) (xs : List Item) → total xs ≤ n → Each (Entry most) xs → Each (Entry n) xs
-entries-total most n [] h entries = tt
-entries-total most n (x ∷ xs) h entries = (
-  record {
-    filmLeast = entries .0 .filmLeast;
-    filmMost = entries .0 .filmMost;
-    amountLeast = entries .0 .amountLeast;
-    amountMost = omega arith;
-  },
-  entries-total most n xs (omega arith) (entries .1),
-)
-
 -- The last film of a window with another number.
-entry-changed : (most n : ℕ) (x : Item) (a : ℕ) → Entry most x → 1 ≤ a → a ≤ n → Entry n (item (x .film) a)
-entry-changed most n x a entry some few =
-    record { filmLeast = entry .filmLeast; filmMost = entry .filmMost; amountLeast = some; amountMost = few }
+entry-changed : (most : ℕ) (x : Item) (a : ℕ) → Entry most x → 1 ≤ a → a ≤ x .amount → Entry most (item (x .film) a)
+entry-changed most x a entry some few = record {
+  filmLeast = entry .filmLeast;
+  filmMost = entry .filmMost;
+  amountLeast = some;
+  amountMost = omega (arith, entry .amountMost);
+}
 
 module _ (d : Disk) (list : List Item) (someSlots : 1 ≤ d .slots) (someLoad : 1 ≤ d .load) where
   -- The films of the disk's window, and what remains of its last one.
@@ -46,6 +38,23 @@ module _ (d : Disk) (list : List Item) (someSlots : 1 ≤ d .slots) (someLoad : 
 
   abbrev rest : Item
   rest = remainder (d .load) films
+
+  -- The viewers that the last film of a window gets where the window reaches the load.
+  abbrev lastViewers : ℕ
+  lastViewers = d .load - total (allButLast films)
+
+  -- All films of such a window but the last stay below the load, so the last film's viewers are at least 1.
+  last-needed : d .load ≤ total films → total (allButLast films) < d .load
+  last-needed h = window-last-needed someSlots (window-cases d list someLoad) h
+
+  -- Those viewers are at most the amount of the last film, and so is the remainder.
+  viewers-most : d .load ≤ total films → lastViewers ≤ lastFilm films .amount
+  viewers-most h = omega (arith, sumBy-last amountOf films (some-film films (omega arith)))
+
+  rest-most : rest .amount ≤ lastFilm films .amount
+  rest-most =
+      by-order (total films) (d .load) (λ h. omega arith)
+      (λ h. omega (arith, last-needed h, sumBy-last amountOf films (some-film films (omega arith))))
 
   -- A disk has at most as many copies as slots.
   pub copies-slots : length (copiesOf d list) ≤ d .slots
@@ -58,7 +67,7 @@ module _ (d : Disk) (list : List Item) (someSlots : 1 ≤ d .slots) (someLoad : 
       )
 
   -- Its films are distinct where those of the list are.
-  pub copies-distinct : Distinct list → Distinct (copiesOf d list)
+  copies-distinct : Distinct list → Distinct (copiesOf d list)
   copies-distinct distinct f =
       omega (
         arith,
@@ -87,46 +96,35 @@ module _ (d : Disk) (list : List Item) (someSlots : 1 ≤ d .slots) (someLoad : 
       leaves h = omega (arith, passed {A = ℕ} (rest .amount) 1 0 (omega arith))
 
   module _ (most : ℕ) (entries : Each (Entry most) list) where
-    -- The films of the window are entries.
+    -- The films of the window are entries, and so is its last one.
     films-entries : Each (Entry most) films
     films-entries = each-within (Entry most) (windowOf d list) list entries
 
-    -- Each copy has 1 to L viewers.
-    pub copies-entries : Each (Entry (d .load)) (copiesOf d list)
+    last-entry : 1 ≤ total films → Entry most (lastFilm films)
+    last-entry h = each-last (Entry most) films (some-film films h) films-entries
+
+    -- The copies are entries.
+    copies-entries : Each (Entry most) (copiesOf d list)
     copies-entries = by-order (total films) (d .load) below reaching
       where
-        below : total films < d .load → Each (Entry (d .load)) (stored (d .load) films)
-        below h =
-            subst (λ (r : List Item). Each (Entry (d .load)) r) (sym (stored-below (d .load) films h))
-            (entries-total most (d .load) films (omega arith) films-entries)
+        below : total films < d .load → Each (Entry most) (stored (d .load) films)
+        below h = subst (λ (r : List Item). Each (Entry most) r) (sym (stored-below (d .load) films h)) films-entries
 
-        reaching : d .load ≤ total films → Each (Entry (d .load)) (stored (d .load) films)
+        reaching : d .load ≤ total films → Each (Entry most) (stored (d .load) films)
         reaching h =
-            subst (λ (r : List Item). Each (Entry (d .load)) r) (sym (stored-reaching (d .load) films h))
-            (each-append (Entry (d .load)) (allButLast films) (item (lastFilm films .film) (lastViewers d list someSlots someLoad) ∷ [])
-            (entries-total most (d .load) (allButLast films) (omega (arith, last-needed d list someSlots someLoad h)) (each-allButLast (Entry most) films films-entries)) (
-              entry-changed most (d .load) (lastFilm films) (lastViewers d list someSlots someLoad)
-                  (each-last (Entry most) films (some-film films (omega arith)) films-entries) (lastViewers-bounds d list someSlots someLoad h .0)
-                  (lastViewers-bounds d list someSlots someLoad h .1),
-              tt,
-            ))
+            subst (λ (r : List Item). Each (Entry most) r) (sym (stored-reaching (d .load) films h))
+            (each-append (Entry most) (allButLast films) _ (each-allButLast (Entry most) films films-entries)
+            (entry-changed most (lastFilm films) lastViewers (last-entry (omega arith)) (omega (arith, last-needed h)) (viewers-most h), tt))
 
     -- The next list holds entries with numbers in the same range.
     pub after-entries : Each (Entry most) (listAfter d list)
     after-entries =
-        each-enter (Entry most) rest (outside (windowOf d list) list) returning
+        each-enter (Entry most) rest (outside (windowOf d list) list)
+        (λ h. entry-changed most (lastFilm films) (rest .amount) (last-entry (omega arith)) h rest-most)
         (each-outside (Entry most) (windowOf d list) list entries)
-      where
-        returning : 1 ≤ rest .amount → Entry most rest
-        returning h =
-            let last : Entry most (lastFilm films) = each-last (Entry most) films (some-film films (omega arith)) films-entries in
-            entry-changed most most (lastFilm films) (rest .amount) last h (omega (arith, rest-most d list someSlots someLoad, last .amountMost))
 
-    -- A disk's copies are well formed.
-    pub copies-wellFormed : Distinct list → DiskWellFormed d (copiesOf d list)
-    copies-wellFormed distinct = record {
-      slots = copies-slots;
-      distinct = copies-distinct distinct;
-      entries = copies-entries;
-      load = copies-load d list someSlots someLoad;
-    }
+    -- A disk's copies are accepted.
+    pub copies-accepted : Distinct list → diskAccepted d (copiesOf d list) ≡ true
+    copies-accepted distinct =
+        disk-accepted d (copiesOf d list) most copies-slots (copies-distinct distinct) copies-entries
+        (copies-load d list someSlots someLoad)

@@ -39,7 +39,7 @@ inSet-none b xs none =
     ∙ sumBy-zero xs
 
 -- A smaller set sums to no more.
-pub inSet-less : (b c : ℕ → Bool) (xs : List Item) → sumBy (inSet (λ f. b f && c f)) xs ≤ sumBy (inSet b) xs
+inSet-less : (b c : ℕ → Bool) (xs : List Item) → sumBy (inSet (λ f. b f && c f)) xs ≤ sumBy (inSet b) xs
 inSet-less b c [] = omega arith
 inSet-less b c (x ∷ xs) = omega (arith, inSet-less b c xs, less (b (x .film)) (c (x .film)))
   where
@@ -49,7 +49,7 @@ inSet-less b c (x ∷ xs) = omega (arith, inSet-less b c xs, less (b (x .film)) 
     less false t = omega arith
 
 -- A sum over a set, with one film taken out.
-pub inSet-split :
+inSet-split :
     (b : ℕ → Bool) (f : ℕ) (xs : List Item)
     → sumBy (inSet b) xs ≡ cond (b f) (amountFor f xs) 0 + sumBy (inSet (λ g. b g && not (eqb f g))) xs
 inSet-split b f [] = go (b f)

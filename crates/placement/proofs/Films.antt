@@ -1,5 +1,5 @@
 -- The films of a list: which weights agree on them, and how the films of the next list stand to those of the list before.
-use mathlib.Core.Path.{_≡_, refl, sym, ap, _∙_}
+use mathlib.Core.Path.{_≡_, refl, sym, ap, subst, _∙_}
 use mathlib.Core.Bool.{Bool, true, false, cond}
 use mathlib.Core.List.{List, [], _∷_, map}
 use Prim.Native.Nat.{ℕ, _+_, _≤_}
@@ -28,12 +28,27 @@ pub other-film-none : (f : ℕ) (x : Item) → (x .film ≡ f → ⊥) → oneIf
 other-film-none f x other = rw (ne-eqb f (x .film) (λ e. other (sym e)))
 
 -- An item that counts for a film is of that film.
-pub same-film : (f : ℕ) (x : Item) → 1 ≤ oneIf f x → f ≡ x .film
+same-film : (f : ℕ) (x : Item) → 1 ≤ oneIf f x → f ≡ x .film
 same-film f x h = go (eqb f (x .film)) refl h
   where
     go : (b : Bool) → eqb f (x .film) ≡ b → 1 ≤ cond b 1 0 → f ≡ x .film
     go true e h = eqb-true f (x .film) e
     go false e h = absurd (omega arith)
+
+-- An item counts at most once.
+oneIf-le : (f : ℕ) (x : Item) → oneIf f x ≤ 1
+oneIf-le f x = go (eqb f (x .film))
+  where
+    go : (b : Bool) → cond b 1 0 ≤ 1
+    go true = omega arith
+    go false = omega arith
+
+-- A new film keeps films distinct.
+pub distinct-new : (x : Item) (xs : List Item) → occurrences (x .film) xs ≡ 0 → Distinct xs → Distinct (x ∷ xs)
+distinct-new x xs new distinct f =
+    by-order 0 (oneIf f x)
+    (λ here. omega (arith, oneIf-le f x, subst (λ (g : ℕ). occurrences g xs ≡ 0) (sym (same-film f x here)) new))
+    (λ none. omega (arith, distinct f))
 
 -- Two weights that agree on the items whose films stand in a list have the same sum over it.
 pub sumBy-same :
@@ -72,16 +87,16 @@ module _ (d : Disk) (list : List Item) (someSlots : 1 ≤ d .slots) (someLoad : 
   rest = remainder (d .load) films
 
   -- What remains is of a film of the window.
-  pub remainder-film : (f : ℕ) → 1 ≤ rest .amount → oneIf f rest ≤ occurrences f films
+  remainder-film : (f : ℕ) → 1 ≤ rest .amount → oneIf f rest ≤ occurrences f films
   remainder-film f h = omega (arith, sumBy-last (oneIf f) films (some-film films (omega arith)))
 
   -- The count of a film in the next list.
-  pub after-remaining : (f : ℕ) → 1 ≤ rest .amount → occurrences f (listAfter d list) ≡ oneIf f rest + occurrences f others
+  after-remaining : (f : ℕ) → 1 ≤ rest .amount → occurrences f (listAfter d list) ≡ oneIf f rest + occurrences f others
   after-remaining f h =
       after-sum d list someSlots someLoad (oneIf f)
       ∙ ap (λ (n : ℕ). n + occurrences f others) (chosen (rest .amount) (oneIf f rest) 0 h)
 
-  pub after-finished : (f : ℕ) → rest .amount ≡ 0 → occurrences f (listAfter d list) ≡ occurrences f others
+  after-finished : (f : ℕ) → rest .amount ≡ 0 → occurrences f (listAfter d list) ≡ occurrences f others
   after-finished f h =
       after-sum d list someSlots someLoad (oneIf f)
       ∙ ap (λ (n : ℕ). n + occurrences f others) (passed (rest .amount) (oneIf f rest) 0 h)

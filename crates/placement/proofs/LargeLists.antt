@@ -29,7 +29,7 @@ module _ (k l : ℕ) (someSlots : 1 ≤ k) (someLoad : 1 ≤ l) where
   Makes a slots = l * slots + k * a ≤ k * (slots * a)
 
   -- It holds of a disk where it holds of its slots.
-  pub load-made : (a slots load : ℕ) → load * k ≡ l * slots → Makes a slots → load + a ≤ slots * a
+  load-made : (a slots load : ℕ) → load * k ≡ l * slots → Makes a slots → load + a ≤ slots * a
   load-made a slots load ratio makes =
       le-of-mul-le-mul-left
       (omega (arith, mul-add k load a, mul-comm k load, ratio))

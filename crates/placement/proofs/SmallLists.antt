@@ -69,7 +69,7 @@ module _ (d : Disk) (ds : List Disk) (list : List Item) (someSlots : 1 ≤ d .sl
     smaller = omega (arith, t .smaller, largest-take (length list - d .slots) list);
   }
 
-  pub small-after : SmallResult ds rest → SmallResult (d ∷ ds) list
+  small-after : SmallResult ds rest → SmallResult (d ∷ ds) list
   small-after (inl none) = inl (ap (λ (r : List Item). total (remaining ds r)) after ∙ none)
   small-after (inr t) =
       inr

@@ -22,7 +22,7 @@ four-products-ordered a b h =
     square = ap (λ (n : ℕ). n * n) total
 
 -- Four times a product is at most the square of the sum.
-pub four-products : (a b : ℕ) → 4 * (a * b) ≤ (a + b) * (a + b)
+four-products : (a b : ℕ) → 4 * (a * b) ≤ (a + b) * (a + b)
 four-products a b =
     by-order a b (λ h. four-products-ordered a b (omega arith))
     (λ h. omega (arith, four-products-ordered b a h, mul-comm a b, square-sum a b, square-sum b a, mul-comm b a))

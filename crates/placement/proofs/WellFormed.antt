@@ -1,94 +1,84 @@
--- The plan of accepted records is well formed and its numbers are bounded: for every list of usable disks, and for 01's rack.
-use mathlib.Core.Path.{_≡_, refl, ap}
+-- The plan of accepted records, disk by disk: its copies are accepted, window sums are bounded, and what is left are entries.
+use mathlib.Core.Path.{_≡_, refl, sym, subst}
+use mathlib.Core.Bool.{true}
 use mathlib.Core.List.{List, [], _∷_}
-use Prim.Native.Nat.{suc, _≤_}
+use Prim.Native.Nat.{ℕ, zero, suc, _≤_}
 use native.Mathlib.Omega.{arith}
-use lib.ListN.{length}
+use lib.ListN.{length, take}
 use Rattle.placement.specs.Items.{Item, listOf}
-use Rattle.placement.specs.Rack.{Disk, mostDemand}
-use Rattle.placement.specs.Disk.{listAfter}
-use Rattle.placement.specs.Method.{placement, remaining, leftOf}
+use Rattle.placement.specs.Rack.{Disk, rackOf, firstSlots, firstLoad, rackAccepted, mostDemand}
+use Rattle.placement.specs.Disk.{copiesOf, listAfter}
+use Rattle.placement.specs.Method.{placement, remaining}
+use Rattle.placement.specs.Plan.{diskAccepted, disksAccepted}
 use Rattle.placement.specs.Promise.{Distinct}
-use Rattle.placement.specs.WellFormed.{Each, Demanded, Accepted, Entry, DisksWellFormed, PlanWellFormed}
-use Rattle.placement.proofs.Sums.{length-sum, one}
+use Rattle.placement.specs.WellFormed.{Each, Demanded, RecordsAccepted, Entry, WindowsBounded}
+use Rattle.placement.proofs.Conjunctions.{and-holds}
+use Rattle.placement.proofs.Racks.{accepted-slots, accepted-load, accepted-equal}
 use Rattle.placement.proofs.Films.{Usable, after-distinct}
-use Rattle.placement.proofs.Listed.{listOf-distinct, sumBy-listOf-le}
-use Rattle.placement.proofs.Each.{each-map, each-listOf, each-byFilm}
-use Rattle.placement.proofs.Entries.{after-count, after-entries, copies-wellFormed}
-use Rattle.placement.proofs.ByFilm.{byFilm-length, byFilm-above}
+use Rattle.placement.proofs.Each.{each-map, each-listOf}
+use Rattle.placement.proofs.Entries.{after-count, after-entries, copies-accepted}
+use Rattle.placement.proofs.WindowSums.{windows-summed, window-summed}
 
--- A record with a demand of at least 1 is an entry.
-demanded-entry : (x : Item) → Demanded x → 1 ≤ x .amount → Entry mostDemand x
-demanded-entry x demanded some =
-    record { filmLeast = demanded .filmLeast; filmMost = demanded .filmMost; amountLeast = some; amountMost = demanded .amountMost }
+-- Equal disks with slots and load can be used, and so can those of an accepted rack.
+pub rack-usable : (n k l : ℕ) → 1 ≤ k → 1 ≤ l → Usable (rackOf n k l)
+rack-usable zero k l someSlots someLoad = tt
+rack-usable (suc n) k l someSlots someLoad = (someSlots, someLoad, rack-usable n k l someSlots someLoad)
+
+pub accepted-usable : (rack : List Disk) → rackAccepted rack ≡ true → Usable rack
+accepted-usable rack e =
+    subst Usable (sym (accepted-equal rack e))
+    (rack-usable (length rack) (firstSlots rack) (firstLoad rack) (accepted-slots rack e .0) (accepted-load rack e .0))
+
+-- The first disks of those that can be used can be used.
+pub usable-take : (n : ℕ) (rack : List Disk) → Usable rack → Usable (take n rack)
+usable-take zero rack usable = tt
+usable-take (suc n) [] usable = tt
+usable-take (suc n) (d ∷ ds) usable = (usable .0, usable .1, usable-take n ds (usable .2))
 
 -- The method's list of accepted records holds entries.
-pub listOf-entries : (records : List Item) → Accepted records → Each (Entry mostDemand) (listOf records)
+pub listOf-entries : (records : List Item) → RecordsAccepted records → Each (Entry mostDemand) (listOf records)
 listOf-entries records accepted =
     each-listOf (Entry mostDemand) records
-    (each-map Demanded (λ x. 1 ≤ x .amount → Entry mostDemand x) records demanded-entry (accepted .demanded))
+    (each-map Demanded (λ x. 1 ≤ x .amount → Entry mostDemand x) records entry (accepted .demanded))
+  where
+    entry : (x : Item) → Demanded x → 1 ≤ x .amount → Entry mostDemand x
+    entry x demanded some =
+        record { filmLeast = demanded .filmLeast; filmMost = demanded .filmMost; amountLeast = some; amountMost = demanded .amountMost }
 
--- Each disk has one list of copies.
-pub placement-length : (disks : List Disk) (list : List Item) → length (placement disks list) ≡ length disks
-placement-length [] list = refl
-placement-length (d ∷ ds) list = ap suc (placement-length ds (listAfter d list))
+-- From a list of distinct entries, each disk's copies are accepted,
+pub placement-accepted :
+    (rack : List Disk) (list : List Item) → Usable rack → Each (Entry mostDemand) list → Distinct list
+    → disksAccepted rack (placement rack list) ≡ true
+placement-accepted [] list usable entries distinct = refl
+placement-accepted (d ∷ ds) list usable entries distinct =
+    and-holds (diskAccepted d (copiesOf d list)) _ (copies-accepted d list (usable .0) (usable .1) mostDemand entries distinct)
+    (placement-accepted ds (listAfter d list) (usable .2) (after-entries d list (usable .0) (usable .1) mostDemand entries)
+    (after-distinct d list (usable .0) (usable .1) distinct))
 
--- From a list of distinct entries, each disk's copies are well formed.
-pub placement-wellFormed :
-    (disks : List Disk) (list : List Item) → Usable disks → Each (Entry mostDemand) list → Distinct list
-    → DisksWellFormed disks (placement disks list)
-placement-wellFormed [] list usable entries distinct = tt
-placement-wellFormed (d ∷ ds) list usable entries distinct = (
-  copies-wellFormed d list (usable .0) (usable .1) mostDemand entries distinct,
-  placement-wellFormed ds (listAfter d list) (usable .2) (after-entries d list (usable .0) (usable .1) mostDemand entries)
-      (after-distinct d list (usable .0) (usable .1) distinct),
+-- and window sums are bounded.
+pub placement-windows : (rack : List Disk) (list : List Item) → Usable rack → Each (Entry mostDemand) list → WindowsBounded rack list
+placement-windows [] list usable entries = tt
+placement-windows (d ∷ ds) list usable entries = (
+  windows-summed d list (usable .0) (usable .1) entries,
+  window-summed d list (usable .0) (usable .1) entries,
+  placement-windows ds (listAfter d list) (usable .2) (after-entries d list (usable .0) (usable .1) mostDemand entries),
 )
 
--- What is left are entries.
+-- What is left are entries,
 pub remaining-entries :
-    (disks : List Disk) (list : List Item) → Usable disks → Each (Entry mostDemand) list → Each (Entry mostDemand) (remaining disks list)
+    (rack : List Disk) (list : List Item) → Usable rack → Each (Entry mostDemand) list → Each (Entry mostDemand) (remaining rack list)
 remaining-entries [] list usable entries = entries
 remaining-entries (d ∷ ds) list usable entries =
     remaining-entries ds (listAfter d list) (usable .2) (after-entries d list (usable .0) (usable .1) mostDemand entries)
 
--- Their films are distinct.
-pub remaining-distinct : (disks : List Disk) (list : List Item) → Usable disks → Distinct list → Distinct (remaining disks list)
+-- their films are distinct,
+pub remaining-distinct : (rack : List Disk) (list : List Item) → Usable rack → Distinct list → Distinct (remaining rack list)
 remaining-distinct [] list usable distinct = distinct
 remaining-distinct (d ∷ ds) list usable distinct =
     remaining-distinct ds (listAfter d list) (usable .2) (after-distinct d list (usable .0) (usable .1) distinct)
 
--- They are no more than the list has.
-pub remaining-count : (disks : List Disk) (list : List Item) → Usable disks → length (remaining disks list) ≤ length list
+-- and they are no more than the list has.
+pub remaining-count : (rack : List Disk) (list : List Item) → Usable rack → length (remaining rack list) ≤ length list
 remaining-count [] list usable = omega arith
 remaining-count (d ∷ ds) list usable =
     omega (arith, remaining-count ds (listAfter d list) (usable .2), after-count d list (usable .0) (usable .1))
-
--- The plan of accepted records is well formed.
-pub plan-wellFormed :
-    (disks : List Disk) (records : List Item) → Usable disks → Accepted records
-    → PlanWellFormed disks (length records) (placement disks (listOf records)) (leftOf disks (listOf records))
-plan-wellFormed disks records usable accepted = record {
-  copies = placement-wellFormed disks (listOf records) usable entries distinct;
-  lists = placement-length disks (listOf records);
-  leftAscending = byFilm-above (remaining disks (listOf records))
-      (each-map (Entry mostDemand) (λ x. 1 ≤ x .film) (remaining disks (listOf records)) (λ x entry. entry .filmLeast) left)
-      (remaining-distinct disks (listOf records) usable distinct);
-  leftEntries = each-byFilm (Entry mostDemand) (remaining disks (listOf records)) left;
-  leftCount = omega (
-    arith,
-    byFilm-length (remaining disks (listOf records)),
-    remaining-count disks (listOf records) usable,
-    length-sum (listOf records),
-    length-sum records,
-    sumBy-listOf-le one records,
-  );
-}
-  where
-    entries : Each (Entry mostDemand) (listOf records)
-    entries = listOf-entries records accepted
-
-    distinct : Distinct (listOf records)
-    distinct = listOf-distinct records (accepted .distinct)
-
-    left : Each (Entry mostDemand) (remaining disks (listOf records))
-    left = remaining-entries disks (listOf records) usable entries

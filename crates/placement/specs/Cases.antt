@@ -1,213 +1,191 @@
--- Cases A to I of document 01 and planning's numeric edges, as one table: what is asked, and what the answer and the lent tables then are.
+-- Cases A to I of document 01, planning's edges and its refusals, as one table: what is asked, and what the answer and the lent tables then are.
 use Prim.Native.Nat.{ℕ, _+_, _*_, _/_, _%_}
-use mathlib.Core.List.{List, [], _∷_, _++_}
+use mathlib.Core.List.{List, [], _∷_, _++_, map}
 use lib.ListN.{length, replicate}
-use Rattle.placement.specs.Items.{Item, item}
-use Rattle.placement.specs.Tables.{Tables}
-use Rattle.placement.specs.Planning.{Call, Numbers, planning, tablesAfter}
+use Rattle.refusal.specs.Verdict.{Numbers}
+use Rattle.placement.specs.Items.{Item, _∶_}
+use Rattle.placement.specs.Rack.{Disk, disk, rackOf, allSlots}
+use Rattle.placement.specs.Tables.{Tables, tables, entryOf}
+use Rattle.placement.specs.Planning.{Call, call, PlanSums, sums, planning, tablesAfter}
 
 -- What a row expects: a plan with S, U, the number of left films and each table's places, or a refusal with its second number.
 pub data Expected : Type 0 where
-  plans : (s u left : ℕ) (films viewers counts leftFilms leftAmounts : List ℕ) → Expected
+  plans : (s u n : ℕ) (copies : List Item) (counts : List ℕ) (left : List Item) → Expected
   refuses : (number second : ℕ) → Expected
 
+-- A call with the lent tables, and what is expected of it.
 pub record Row : Type 0 where
-  pub disks : ℕ
-  pub slots : ℕ
-  pub streams : ℕ
-  pub list : List Item
+  pub asked : Call
+  pub lent : Tables
   pub expected : Expected
 
-abbrev row : ℕ → ℕ → ℕ → List Item → Expected → Row
-row n k l list e = record { disks = n; slots = k; streams = l; list = list; expected = e }
-
 -- A number as 32 bits, least significant byte first.
-abbrev bytes32 : ℕ → List ℕ
+abbrev pub bytes32 : ℕ → List ℕ
 bytes32 n = n % 256 ∷ n / 256 % 256 ∷ n / 65536 % 256 ∷ n / 16777216 % 256 ∷ []
 
 abbrev bytesOf : List Item → List ℕ
 bytesOf [] = []
 bytesOf (x ∷ xs) = (bytes32 (x .film) ++ bytes32 (x .amount)) ++ bytesOf xs
 
-abbrev pub callOf : Row → Call
-callOf r = record { disks = r .disks; slots = r .slots; streams = r .streams; list = bytesOf (r .list) }
+-- Tables that hold 77 everywhere.
+abbrev sevens : (copies counts left : ℕ) → Tables
+sevens copies counts left = tables (replicate copies 77) (replicate counts 77) (replicate left 77)
 
--- The lent tables hold 77 everywhere, with one place more than planning needs.
-abbrev lent : Row → Tables
-lent r = record {
-  films = replicate (r .disks * r .slots + 1) 77;
-  viewers = replicate (r .disks * r .slots + 1) 77;
-  counts = replicate (r .disks + 1) 77;
-  leftFilms = replicate (length (r .list) + 1) 77;
-  leftAmounts = replicate (length (r .list) + 1) 77;
+-- A row with one place more in each table than planning needs.
+abbrev row : List Disk → List Item → Expected → Row
+row rack list e = record {
+  asked = call rack (bytesOf list);
+  lent = sevens (allSlots rack + 1) (length rack + 1) (length list + 1);
+  expected = e;
 }
 
+-- A row with bytes and tables of its own that is refused.
+abbrev refusal : List Disk → List ℕ → Tables → ℕ → ℕ → Row
+refusal rack bytes lent number second = record { asked = call rack bytes; lent = lent; expected = refuses number second }
+
 pub record Outcome : Type 0 where
-  pub numbers : Numbers
+  pub numbers : Numbers PlanSums
   pub tables : Tables
 
 -- What the definitions give for a row.
 abbrev pub outcome : Row → Outcome
-outcome r = record { numbers = planning (callOf r) (lent r); tables = tablesAfter (callOf r) (lent r) }
-
-abbrev numbers : ℕ → ℕ → ℕ → ℕ → ℕ → Numbers
-numbers refusal second s u left =
-    record { refusal = refusal; second = second; served = s; unserved = u; left = left }
+outcome r = record { numbers = planning (r .asked) (r .lent); tables = tablesAfter (r .asked) (r .lent) }
 
 -- The outcome that a row expects of these tables at entry: after a plan each table has the row's places and then its last 77;
 -- after a refusal all is as it was.
 abbrev expectation : Tables → Expected → Outcome
-expectation t (plans s u left films viewers counts leftFilms leftAmounts) = record {
-  numbers = numbers 0 0 s u left;
-  tables = record {
-    films = films ++ (77 ∷ []);
-    viewers = viewers ++ (77 ∷ []);
-    counts = counts ++ (77 ∷ []);
-    leftFilms = leftFilms ++ (77 ∷ []);
-    leftAmounts = leftAmounts ++ (77 ∷ []);
-  };
+expectation t (plans s u n copies counts left) = record {
+  numbers = record { refusal = 0; second = 0; values = sums s u n };
+  tables = tables (map entryOf copies ++ (77 ∷ [])) (counts ++ (77 ∷ [])) (map entryOf left ++ (77 ∷ []));
 }
-expectation t (refuses number second) = record { numbers = numbers number second 0 0 0; tables = t }
+expectation t (refuses number second) = record {
+  numbers = record { refusal = number; second = second; values = sums 0 0 0 };
+  tables = t;
+}
 
 abbrev pub expectedOf : Row → Outcome
-expectedOf r = expectation (lent r) (r .expected)
+expectedOf r = expectation (r .lent) (r .expected)
 
-infixr 90 _∶_
--- A film and its demand, as 01 writes them.
-abbrev _∶_ : ℕ → ℕ → Item
-f ∶ a = item f a
+-- An unused place.
+abbrev none : Item
+none = 0 ∶ 0
 
 abbrev pub caseA : Row
 caseA =
-    row 3 4 6
+    row (rackOf 3 4 6)
     (1 ∶ 1 ∷ 2 ∶ 1 ∷ 3 ∶ 1 ∷ 4 ∶ 1 ∷ 5 ∶ 1 ∷ 6 ∶ 1 ∷ 7 ∶ 1 ∷ 8 ∶ 1 ∷ 9 ∶ 1 ∷ 10 ∶ 1 ∷ 11 ∶ 4 ∷ 12 ∶ 4 ∷ [])
     (plans 16 2 2
-    (8 ∷ 9 ∷ 10 ∷ 11 ∷ 6 ∷ 7 ∷ 11 ∷ 12 ∷ 3 ∷ 4 ∷ 5 ∷ 12 ∷ [])
-    (1 ∷ 1 ∷ 1 ∷ 3 ∷ 1 ∷ 1 ∷ 1 ∷ 3 ∷ 1 ∷ 1 ∷ 1 ∷ 1 ∷ [])
+    (8 ∶ 1 ∷ 9 ∶ 1 ∷ 10 ∶ 1 ∷ 11 ∶ 3 ∷ 6 ∶ 1 ∷ 7 ∶ 1 ∷ 11 ∶ 1 ∷ 12 ∶ 3 ∷ 3 ∶ 1 ∷ 4 ∶ 1 ∷ 5 ∶ 1 ∷ 12 ∶ 1 ∷ [])
     (4 ∷ 4 ∷ 4 ∷ [])
-    (1 ∷ 2 ∷ replicate 10 0)
-    (1 ∷ 1 ∷ replicate 10 0))
+    (1 ∶ 1 ∷ 2 ∶ 1 ∷ replicate 10 none))
 
 abbrev pub caseB : Row
-caseB =
-    row 1 2 5
-    []
-    (plans 0 0 0
-    (0 ∷ 0 ∷ [])
-    (0 ∷ 0 ∷ [])
-    (0 ∷ [])
-    []
-    [])
+caseB = row (rackOf 1 2 5) [] (plans 0 0 0 (none ∷ none ∷ []) (0 ∷ []) [])
 
 abbrev pub caseC : Row
 caseC =
-    row 2 1 2
-    (1 ∶ 1 ∷ 2 ∶ 3 ∷ [])
-    (plans 3 1 1
-    (2 ∷ 2 ∷ [])
-    (2 ∷ 1 ∷ [])
-    (1 ∷ 1 ∷ [])
-    (1 ∷ 0 ∷ [])
-    (1 ∷ 0 ∷ []))
+    row (rackOf 2 1 2) (1 ∶ 1 ∷ 2 ∶ 3 ∷ [])
+    (plans 3 1 1 (2 ∶ 2 ∷ 2 ∶ 1 ∷ []) (1 ∷ 1 ∷ []) (1 ∶ 1 ∷ none ∷ []))
 
 abbrev pub caseD : Row
 caseD =
-    row 1 3 10
-    (1 ∶ 4 ∷ 2 ∶ 6 ∷ 3 ∶ 10 ∷ [])
-    (plans 10 10 1
-    (1 ∷ 2 ∷ 0 ∷ [])
-    (4 ∷ 6 ∷ 0 ∷ [])
-    (2 ∷ [])
-    (3 ∷ 0 ∷ 0 ∷ [])
-    (10 ∷ 0 ∷ 0 ∷ []))
+    row (rackOf 1 3 10) (1 ∶ 4 ∷ 2 ∶ 6 ∷ 3 ∶ 10 ∷ [])
+    (plans 10 10 1 (1 ∶ 4 ∷ 2 ∶ 6 ∷ none ∷ []) (2 ∷ []) (3 ∶ 10 ∷ none ∷ none ∷ []))
 
 abbrev pub caseE : Row
 caseE =
-    row 2 2 10
-    (1 ∶ 3 ∷ 3 ∶ 4 ∷ 2 ∶ 13 ∷ [])
-    (plans 20 0 0
-    (3 ∷ 2 ∷ 1 ∷ 2 ∷ [])
-    (4 ∷ 6 ∷ 3 ∷ 7 ∷ [])
-    (2 ∷ 2 ∷ [])
-    (0 ∷ 0 ∷ 0 ∷ [])
-    (0 ∷ 0 ∷ 0 ∷ []))
+    row (rackOf 2 2 10) (1 ∶ 3 ∷ 3 ∶ 4 ∷ 2 ∶ 13 ∷ [])
+    (plans 20 0 0 (3 ∶ 4 ∷ 2 ∶ 6 ∷ 1 ∶ 3 ∷ 2 ∶ 7 ∷ []) (2 ∷ 2 ∷ []) (none ∷ none ∷ none ∷ []))
 
 abbrev pub caseF : Row
 caseF =
-    row 2 2 5
-    (9 ∶ 1000000 ∷ [])
-    (plans 10 999990 1
-    (9 ∷ 0 ∷ 9 ∷ 0 ∷ [])
-    (5 ∷ 0 ∷ 5 ∷ 0 ∷ [])
-    (1 ∷ 1 ∷ [])
-    (9 ∷ [])
-    (999990 ∷ []))
+    row (rackOf 2 2 5) (9 ∶ 1000000 ∷ [])
+    (plans 10 999990 1 (9 ∶ 5 ∷ none ∷ 9 ∶ 5 ∷ none ∷ []) (1 ∷ 1 ∷ []) (9 ∶ 999990 ∷ []))
 
 abbrev pub caseG : Row
 caseG =
-    row 1 4 9
-    (4 ∶ 0 ∷ 1 ∶ 2 ∷ 2 ∶ 3 ∷ [])
-    (plans 5 0 0
-    (1 ∷ 2 ∷ 0 ∷ 0 ∷ [])
-    (2 ∷ 3 ∷ 0 ∷ 0 ∷ [])
-    (2 ∷ [])
-    (0 ∷ 0 ∷ 0 ∷ [])
-    (0 ∷ 0 ∷ 0 ∷ []))
+    row (rackOf 1 4 9) (4 ∶ 0 ∷ 1 ∶ 2 ∷ 2 ∶ 3 ∷ [])
+    (plans 5 0 0 (1 ∶ 2 ∷ 2 ∶ 3 ∷ none ∷ none ∷ []) (2 ∷ []) (none ∷ none ∷ none ∷ []))
 
 abbrev pub caseH : Row
-caseH =
-    row 1 1 5
-    (7 ∶ 5 ∷ 2 ∶ 5 ∷ [])
-    (plans 5 5 1
-    (2 ∷ [])
-    (5 ∷ [])
-    (1 ∷ [])
-    (7 ∷ 0 ∷ [])
-    (5 ∷ 0 ∷ []))
+caseH = row (rackOf 1 1 5) (7 ∶ 5 ∷ 2 ∶ 5 ∷ []) (plans 5 5 1 (2 ∶ 5 ∷ []) (1 ∷ []) (7 ∶ 5 ∷ none ∷ []))
 
 abbrev pub caseI : Row
-caseI =
-    row 1 1 5
-    (5 ∶ 3 ∷ 5 ∶ 3 ∷ [])
-    (refuses 6 2)
+caseI = row (rackOf 1 1 5) (5 ∶ 3 ∷ 5 ∶ 3 ∷ []) (refuses 6 2)
 
--- N = 64 passes, 65 is 1; film 65,535 passes, 65,536 is 4; demand 1,000,001 is 5.
-abbrev pub disks64 : Row
-disks64 =
-    row 64 1 1
-    []
-    (plans 0 0 0 (replicate 64 0) (replicate 64 0) (replicate 64 0) [] [])
-
-abbrev pub disks65 : Row
-disks65 =
-    row 65 1 1
-    []
-    (refuses 1 0)
-
-abbrev pub film65535 : Row
-film65535 =
-    row 1 1 5
-    (65535 ∶ 5 ∷ [])
-    (plans 5 0 0
-    (65535 ∷ [])
-    (5 ∷ [])
-    (1 ∷ [])
-    (0 ∷ [])
-    (0 ∷ []))
-
-abbrev pub film65536 : Row
-film65536 =
-    row 1 1 5
-    (65536 ∶ 5 ∷ [])
-    (refuses 4 1)
-
-abbrev pub demand1000001 : Row
-demand1000001 =
-    row 1 1 5
-    (5 ∶ 1000001 ∷ [])
-    (refuses 5 1)
-
+-- Cases A to I.
 abbrev pub cases : List Row
-cases =
-    caseA ∷ caseB ∷ caseC ∷ caseD ∷ caseE ∷ caseF ∷ caseG ∷ caseH ∷ caseI
-    ∷ disks64 ∷ disks65 ∷ film65535 ∷ film65536 ∷ demand1000001 ∷ []
+cases = caseA ∷ caseB ∷ caseC ∷ caseD ∷ caseE ∷ caseF ∷ caseG ∷ caseH ∷ caseI ∷ []
+
+-- One film that fills one disk.
+abbrev filled : List Disk → ℕ → ℕ → Row
+filled rack film viewers = row rack (film ∶ viewers ∷ []) (plans viewers 0 0 (film ∶ viewers ∷ []) (1 ∷ []) (none ∷ []))
+
+-- N = 64 passes, film 65,535 passes, load 65,535 passes, a demand of 1,000,000 passes (F), and so do 32 slots. The left table goes by film, not by
+-- amount. A record in bytes: film 258, demand 66,051.
+abbrev pub edges : List Row
+edges =
+    row (rackOf 64 1 1) [] (plans 0 0 0 (replicate 64 none) (replicate 64 0) [])
+    ∷ filled (rackOf 1 1 5) 65535 5
+    ∷ filled (rackOf 1 1 65535) 7 65535
+    ∷ row (rackOf 1 32 9) [] (plans 0 0 0 (replicate 32 none) (0 ∷ []) [])
+    ∷ row (rackOf 1 1 1) (9 ∶ 2 ∷ 3 ∶ 5 ∷ 7 ∶ 1 ∷ []) (plans 1 7 2 (7 ∶ 1 ∷ []) (1 ∷ []) (3 ∶ 5 ∷ 9 ∶ 2 ∷ none ∷ []))
+    ∷ record {
+      asked = call (rackOf 1 1 65535) (2 ∷ 1 ∷ 0 ∷ 0 ∷ 3 ∷ 2 ∷ 1 ∷ 0 ∷ []);
+      lent = sevens 2 2 2;
+      expected = plans 65535 516 1 (258 ∶ 65535 ∷ []) (1 ∷ []) (258 ∶ 516 ∷ []);
+    }
+    ∷ []
+
+-- 1: N, k or L outside its range, or unequal disks, also where the list is at fault too.
+abbrev pub rackRefusals : List Row
+rackRefusals =
+    row (rackOf 65 1 1) [] (refuses 1 0)
+    ∷ row (rackOf 0 1 1) [] (refuses 1 0)
+    ∷ row (rackOf 1 0 1) [] (refuses 1 0)
+    ∷ row (rackOf 1 33 1) [] (refuses 1 0)
+    ∷ row (rackOf 1 1 0) [] (refuses 1 0)
+    ∷ row (rackOf 1 1 65536) (7 ∶ 5 ∷ []) (refuses 1 0)
+    ∷ row (disk 1 5 ∷ disk 2 5 ∷ []) [] (refuses 1 0)
+    ∷ row (disk 1 5 ∷ disk 1 6 ∷ []) [] (refuses 1 0)
+    ∷ row (rackOf 65 1 1) (0 ∶ 1 ∷ []) (refuses 1 0)
+    ∷ refusal (rackOf 1 33 1) (0 ∷ []) (sevens 0 0 0) 1 0
+    ∷ []
+
+-- 2 comes before 3, and 3 before 7. 1,024 records are not 3: here the first of them is at fault.
+abbrev pub shapeRefusals : List Row
+shapeRefusals =
+    refusal (rackOf 1 1 5) (replicate 7 0) (sevens 1 1 0) 2 0
+    ∷ refusal (rackOf 1 1 5) (replicate 9 0) (sevens 1 1 0) 2 0
+    ∷ refusal (rackOf 1 1 5) (replicate 8201 0) (sevens 1 1 1025) 2 0
+    ∷ refusal (rackOf 1 1 5) (replicate 8200 0) (sevens 1 1 0) 3 0
+    ∷ refusal (rackOf 1 1 5) (replicate 8192 0) (sevens 1 1 1024) 4 1
+    ∷ []
+
+-- 7: each table one place too short, also where a record is at fault.
+abbrev pub roomRefusals : List Row
+roomRefusals =
+    refusal (rackOf 2 2 5) (bytesOf (7 ∶ 5 ∷ [])) (sevens 3 2 1) 7 0
+    ∷ refusal (rackOf 2 2 5) (bytesOf (7 ∶ 5 ∷ [])) (sevens 4 1 1) 7 0
+    ∷ refusal (rackOf 2 2 5) (bytesOf (7 ∶ 5 ∷ 8 ∶ 0 ∷ [])) (sevens 4 2 1) 7 0
+    ∷ refusal (rackOf 2 2 5) (bytesOf (0 ∶ 5 ∷ [])) (sevens 4 2 0) 7 0
+    ∷ []
+
+-- Record by record: 4, 5, 6 in this order within a record, and the first record with a fault decides.
+abbrev pub recordRefusals : List Row
+recordRefusals =
+    row (rackOf 1 1 5) (0 ∶ 5 ∷ []) (refuses 4 1)
+    ∷ row (rackOf 1 1 5) (65536 ∶ 5 ∷ []) (refuses 4 1)
+    ∷ row (rackOf 1 1 5) (65541 ∶ 5 ∷ []) (refuses 4 1)
+    ∷ row (rackOf 1 1 5) (16777221 ∶ 5 ∷ []) (refuses 4 1)
+    ∷ row (rackOf 1 1 5) (5 ∶ 16777216 ∷ []) (refuses 5 1)
+    ∷ row (rackOf 1 1 5) (5 ∶ 1000001 ∷ []) (refuses 5 1)
+    ∷ row (rackOf 1 1 5) (0 ∶ 1000001 ∷ []) (refuses 4 1)
+    ∷ row (rackOf 1 1 5) (5 ∶ 1 ∷ 5 ∶ 1000001 ∷ []) (refuses 5 2)
+    ∷ row (rackOf 1 1 5) (5 ∶ 1000001 ∷ 0 ∶ 1 ∷ []) (refuses 5 1)
+    ∷ row (rackOf 1 1 5) (5 ∶ 0 ∷ 6 ∶ 1 ∷ 5 ∶ 0 ∷ 0 ∶ 1 ∷ []) (refuses 6 3)
+    ∷ []
+
+-- The whole table.
+abbrev pub rows : List Row
+rows = cases ++ (edges ++ (rackRefusals ++ (shapeRefusals ++ (roomRefusals ++ recordRefusals))))

@@ -1,28 +1,30 @@
 -- What a caller holds: the copies and the left films that stand in the lent tables, read back disk by disk.
 use Prim.Native.Nat.{ℕ}
-use mathlib.Core.List.{List, [], _∷_}
+use mathlib.Core.List.{List, [], _∷_, map}
 use lib.ListN.{take, drop}
-use Rattle.placement.specs.Items.{Item, item}
+use Rattle.placement.specs.Items.{Item}
 use Rattle.placement.specs.Rack.{Disk}
-use Rattle.placement.specs.Tables.{Tables}
+use Rattle.placement.specs.Tables.{Tables, itemIn}
+use Rattle.placement.specs.Plan.{Plan}
 
--- Entries of two parallel lists, as long as both last.
-abbrev pub entries : List ℕ → List ℕ → List Item
-entries [] amounts = []
-entries (f ∷ films) [] = []
-entries (f ∷ films) (a ∷ amounts) = item f a ∷ entries films amounts
+-- The first n entries of a table.
+abbrev pub front : ℕ → List ℕ → List Item
+front n entries = map itemIn (take n entries)
 
 -- The copies of each disk: as many entries as its count says, from the disk's first place on, which is after the slots of all disks before it.
-abbrev pub copiesFrom : List Disk → List ℕ → List ℕ → List ℕ → List (List Item)
-copiesFrom [] films viewers counts = []
-copiesFrom (d ∷ ds) films viewers [] = []
-copiesFrom (d ∷ ds) films viewers (n ∷ counts) =
-    entries (take n films) (take n viewers) ∷ copiesFrom ds (drop (d .slots) films) (drop (d .slots) viewers) counts
+abbrev pub copiesFrom : List Disk → (copies counts : List ℕ) → List (List Item)
+copiesFrom [] copies counts = []
+copiesFrom (d ∷ ds) copies [] = []
+copiesFrom (d ∷ ds) copies (n ∷ counts) = front n copies ∷ copiesFrom ds (drop (d .slots) copies) counts
 
 -- The copies that stand in the lent tables, disk by disk.
 abbrev pub copiesHeld : List Disk → Tables → List (List Item)
-copiesHeld disks t = copiesFrom disks (t .films) (t .viewers) (t .counts)
+copiesHeld rack t = copiesFrom rack (t .copies) (t .counts)
 
 -- The first n entries of the left table.
 abbrev pub leftHeld : ℕ → Tables → List Item
-leftHeld n t = entries (take n (t .leftFilms)) (take n (t .leftAmounts))
+leftHeld n t = front n (t .left)
+
+-- The plan that the tables hold, with the stated number of left films.
+abbrev pub planHeld : List Disk → Tables → ℕ → Plan
+planHeld rack t n = record { rack = rack; copies = copiesHeld rack t; left = leftHeld n t }

@@ -6,9 +6,12 @@ pub mod Method
 pub mod Sharing
 pub mod Records
 pub mod Tables
+pub mod Plan
+pub mod PlanExamples
 pub mod Held
 pub mod Planning
 pub mod Promise
 pub mod WellFormed
 pub mod PlanPromise
 pub mod Cases
+pub mod Demand3Words

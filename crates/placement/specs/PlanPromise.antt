@@ -1,14 +1,16 @@
 -- What planning promises to its caller, as one record: the contract of every entry that plans.
 use Prim.Native.Nat.{_≤_}
 use mathlib.Core.Path.{_≡_}
+use Rattle.refusal.specs.Verdict.{Numbers}
 use Rattle.placement.specs.Items.{total}
+use Rattle.placement.specs.Rack.{leastSlots}
 use Rattle.placement.specs.Tables.{Tables}
 use Rattle.placement.specs.Held.{copiesHeld, leftHeld}
-use Rattle.placement.specs.Planning.{Call, Numbers, planning, tablesAfter, disksIn, recordsIn}
+use Rattle.placement.specs.Planning.{Call, PlanSums, planning, tablesAfter, recordsIn}
 use Rattle.placement.specs.Promise.{Demand3}
 
 -- A call, the lent tables at entry and at exit, and the numbers of the answer.
-pub record PlanPromise (call : Call) (entry exit : Tables) (answer : Numbers) : Type 0 where
+pub record PlanPromise (call : Call) (entry exit : Tables) (answer : Numbers PlanSums) : Type 0 where
   -- the answer is the method's, or 01's refusal
   pub numbers : answer ≡ planning call entry
   -- every place of every lent table is what the definition gives
@@ -18,7 +20,7 @@ pub record PlanPromise (call : Call) (entry exit : Tables) (answer : Numbers) : 
   -- demand 3 of the copies that stand in the lent tables, disk by disk, with the S and U of the answer
   pub demand3 :
       answer .refusal ≡ 0
-      → Demand3 (call .slots) (disksIn call) (recordsIn call) (copiesHeld (disksIn call) exit) (answer .served)
-      (answer .unserved)
+      → Demand3 (leastSlots (call .rack)) (call .rack) (recordsIn call) (copiesHeld (call .rack) exit) (answer .values .served)
+      (answer .values .unserved)
   -- U is the sum over the left table
-  pub left : answer .refusal ≡ 0 → total (leftHeld (answer .left) exit) ≡ answer .unserved
+  pub left : answer .refusal ≡ 0 → total (leftHeld (answer .values .left) exit) ≡ answer .values .unserved

@@ -1,77 +1,75 @@
 -- What planning answers and what the lent tables hold afterwards, for every call.
-use Prim.Native.Nat.{ℕ, _*_, _/_, _%_}
-use mathlib.Core.Bool.{Bool, _&&_}
-use mathlib.Core.List.{List, []}
-use lib.Dec.{leb, eqb}
+use Prim.Native.Nat.{ℕ}
+use mathlib.Core.List.{List, map}
 use lib.ListN.{length}
+use Rattle.refusal.specs.Verdict.{Verdict, given, unless, Numbers, answered, afterwards}
 use Rattle.placement.specs.Items.{Item, listOf}
-use Rattle.placement.specs.Rack.{Disk, rackOf, rackAccepted, mostRecords}
-use Rattle.placement.specs.Records.{Verdict, planned, refused, unless, judgeRecords, recordsOf}
+use Rattle.placement.specs.Rack.{Disk, rackAccepted}
+use Rattle.placement.specs.Records.{recordCount, recordsOf, shapeJudged, recordsJudged}
 use Rattle.placement.specs.Method.{placement, served, unserved, leftOf}
-use Rattle.placement.specs.Tables.{Tables, copyPlaces, countPlaces, leftPlaces, holding}
+use Rattle.placement.specs.Tables.{Tables, entryOf, padded, roomFor, holding}
+use Rattle.placement.specs.Plan.{Plan}
 
--- What the caller asks: the rack's three numbers and the bytes of the list.
+-- What the caller asks: the rack and the bytes of the list.
 pub record Call : Type 0 where
-  pub disks : ℕ
-  pub slots : ℕ
-  pub streams : ℕ
+  pub rack : List Disk
   pub list : List ℕ
 
-abbrev pub recordCount : Call → ℕ
-recordCount c = length (c .list) / 8
+abbrev pub call : List Disk → List ℕ → Call
+call rack list = record { rack = rack; list = list }
 
 abbrev pub recordsIn : Call → List Item
 recordsIn c = recordsOf (c .list)
 
-abbrev pub disksIn : Call → List Disk
-disksIn c = rackOf (c .disks) (c .slots) (c .streams)
+-- 1, N, k or L outside its range; then what comes next.
+abbrev pub rackJudged : {A : Type 0} → List Disk → Verdict A → Verdict A
+rackJudged rack following = unless (rackAccepted rack) 1 0 following
 
--- The tables have a place for each slot, each disk and each record.
-abbrev pub roomFor : Call → Tables → Bool
-roomFor c t =
-    leb (c .disks * c .slots) (copyPlaces t) && (leb (c .disks) (countPlaces t) && leb (recordCount c) (leftPlaces t))
+-- 7, a lent table too short: copy table below all slots, count table below the disks, left table below n; then what comes next.
+abbrev pub roomJudged : {A : Type 0} → List Disk → ℕ → Tables → Verdict A → Verdict A
+roomJudged rack n t following = unless (roomFor rack n t) 7 0 following
 
--- 01's refusals of planning, in its order; a planned verdict where none applies.
-abbrev pub verdict : Call → Tables → Verdict
+-- 01's refusals of planning, in its order; given where none applies.
+abbrev pub verdict : Call → Tables → Verdict (Unit {0})
 verdict c t =
-    unless (rackAccepted (c .disks) (c .slots) (c .streams)) (refused 1 0)
-    (unless (eqb (length (c .list) % 8) 0) (refused 2 0)
-    (unless (leb (recordCount c) mostRecords) (refused 3 0)
-    (unless (roomFor c t) (refused 7 0)
-    (judgeRecords [] 1 (recordsIn c)))))
+    rackJudged (c .rack)
+    (shapeJudged (c .list)
+    (roomJudged (c .rack) (recordCount (c .list)) t
+    (recordsJudged (c .list) (given tt))))
 
 -- The plan of a call: the copies of each disk, and what is left by ascending film.
-abbrev pub copiesIn : Call → List (List Item)
-copiesIn c = placement (disksIn c) (listOf (recordsIn c))
+abbrev pub planIn : Call → Plan
+planIn c = record {
+  rack = c .rack;
+  copies = placement (c .rack) (listOf (recordsIn c));
+  left = leftOf (c .rack) (listOf (recordsIn c));
+}
 
-abbrev pub leftIn : Call → List Item
-leftIn c = leftOf (disksIn c) (listOf (recordsIn c))
-
--- The numbers of an answer. A refusal has its number, its second number where 01 names one, and zero for the rest.
-pub record Numbers : Type 0 where
-  pub refusal : ℕ
-  pub second : ℕ
+-- "The answer also gives S, U and the number of left films."
+pub record PlanSums : Type 0 where
   pub served : ℕ
   pub unserved : ℕ
   pub left : ℕ
 
-abbrev pub answerFor : Call → Verdict → Numbers
-answerFor c planned = record {
-  refusal = 0;
-  second = 0;
-  served = served (copiesIn c);
-  unserved = unserved (disksIn c) (listOf (recordsIn c));
-  left = length (leftIn c);
-}
-answerFor c (refused number position) = record { refusal = number; second = position; served = 0; unserved = 0; left = 0 }
+abbrev pub sums : (served unserved left : ℕ) → PlanSums
+sums s u left = record { served = s; unserved = u; left = left }
 
--- A refusal changes no lent table.
-abbrev pub tablesFor : Call → Tables → Verdict → Tables
-tablesFor c t planned = holding (disksIn c) (recordCount c) (copiesIn c) (leftIn c) t
-tablesFor c t (refused number position) = t
+abbrev pub sumsIn : Call → PlanSums
+sumsIn c = sums (served (planIn c .copies)) (unserved (c .rack) (listOf (recordsIn c))) (length (planIn c .left))
+
+-- The numbers of a verdict on a call.
+abbrev pub answerFor : Call → Verdict (Unit {0}) → Numbers PlanSums
+answerFor c v = answered (sums 0 0 0) (λ u. sumsIn c) v
+
+-- The tables with the plan of a call: unused copy places below all slots are zero, and left places below the number of records.
+abbrev pub holdingCall : Call → Tables → Tables
+holdingCall c t = holding (c .rack) (planIn c .copies) (padded (recordCount (c .list)) (map entryOf (planIn c .left))) t
+
+abbrev pub tablesFor : Call → Tables → Verdict (Unit {0}) → Tables
+tablesFor c t v = afterwards t (λ u. holdingCall c t) v
 
 -- The answer of a call with these tables at entry.
-unfoldable pub planning : Call → Tables → Numbers
+unfoldable pub planning : Call → Tables → Numbers PlanSums
 planning c t = answerFor c (verdict c t)
 
 -- The tables' contents after it.

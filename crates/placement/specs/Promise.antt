@@ -17,6 +17,13 @@ pub record Fitting (disks : List Disk) (demands : List Item) : Type 0 where
   pub load : total demands ≤ allLoads disks
   pub slots : wanted demands ≤ allSlots disks
 
+-- 4kU² and (S − kU)², the two sides of demand 3's square.
+abbrev pub unservedSide : ℕ → ℕ → ℕ
+unservedSide k u = 4 * (k * (u * u))
+
+abbrev pub servedSide : ℕ → ℕ → ℕ → ℕ
+servedSide k s u = (s - k * u) * (s - k * u)
+
 -- Demand 3 for the copies of a layout, with S served and U unserved. k is the slots of a disk; of unequal disks, the smallest.
 pub record Demand3 (k : ℕ) (disks : List Disk) (demands : List Item) (layout : List (List Item)) (s u : ℕ) : Type 0 where
   -- the plan's own sharing keeps within the bounds, and serves S
@@ -28,7 +35,7 @@ pub record Demand3 (k : ℕ) (disks : List Disk) (demands : List Item) (layout :
   pub whole : s + u ≡ total demands
   -- kU is at most S, and 4kU² is at most (S − kU)²
   pub share : Fitting disks demands → k * u ≤ s
-  pub square : Fitting disks demands → 4 * (k * (u * u)) ≤ (s - k * u) * (s - k * u)
+  pub square : Fitting disks demands → unservedSide k u ≤ servedSide k s u
   -- all slots are at least the films wanted plus the number of disks minus one: nobody is unserved
   pub allServed : Fitting disks demands → wanted demands + length disks ≤ allSlots disks + 1 → u ≡ 0
 

@@ -1,11 +1,12 @@
--- Disks and racks: what a disk is, the list of disks that a rack stands for, and the accepted ranges.
-use Prim.Native.Nat.{ℕ, _+_}
-use mathlib.Core.Bool.{Bool, _&&_}
+-- Document 01's vocabulary: slots, load, disks, the rack as a list of disks by number, and the accepted ranges.
+use Prim.Native.Nat.{ℕ, _+_, min}
+use mathlib.Core.Bool.{Bool, true, _&&_}
 use mathlib.Core.List.{List, [], _∷_}
-use lib.Dec.{leb}
-use lib.ListN.{replicate}
+use lib.Dec.{leb, eqb}
+use lib.ListN.{length, replicate}
+use Rattle.placement.specs.declared.rack.Rack.{Rack}
 
--- A disk: how many films it can store and how many viewers it can serve at a time, 01's load or streams.
+-- A disk has k slots, which count stored films, and load L, which counts streams.
 pub record Disk : Type 0 where
   pub slots : ℕ
   pub load : ℕ
@@ -13,9 +14,13 @@ pub record Disk : Type 0 where
 abbrev pub disk : ℕ → ℕ → Disk
 disk k l = record { slots = k; load = l }
 
--- 01's rack: N times one disk.
+-- 01's rack of N equal disks.
 abbrev pub rackOf : ℕ → ℕ → ℕ → List Disk
 rackOf disks slots load = replicate disks (disk slots load)
+
+-- The disks of a rack of the code.
+abbrev pub disksOf : Rack → List Disk
+disksOf rack = rackOf (rack .disks) (rack .slots .0) (rack .streams .0)
 
 -- All slots, and all disks' streams.
 abbrev pub allSlots : List Disk → ℕ
@@ -25,6 +30,24 @@ allSlots (d ∷ ds) = d .slots + allSlots ds
 abbrev pub allLoads : List Disk → ℕ
 allLoads [] = 0
 allLoads (d ∷ ds) = d .load + allLoads ds
+
+-- Slots and load of disk 1: 01's k and L, where all disks are equal.
+abbrev pub firstSlots : List Disk → ℕ
+firstSlots [] = 0
+firstSlots (d ∷ ds) = d .slots
+
+abbrev pub firstLoad : List Disk → ℕ
+firstLoad [] = 0
+firstLoad (d ∷ ds) = d .load
+
+-- The smallest of a number and the slots of the disks.
+abbrev pub leastFrom : ℕ → List Disk → ℕ
+leastFrom k [] = k
+leastFrom k (d ∷ ds) = leastFrom (min k (d .slots)) ds
+
+-- The smallest slots of a rack: the k of demand 3.
+abbrev pub leastSlots : List Disk → ℕ
+leastSlots rack = leastFrom (firstSlots rack) rack
 
 -- 01's table of accepted quantities.
 abbrev pub mostDisks : ℕ
@@ -39,8 +62,12 @@ mostLoad = 65535
 abbrev pub mostRecords : ℕ
 mostRecords = 1024
 
+-- The largest film number in a demand list, and the largest in a plan.
 abbrev pub mostFilm : ℕ
 mostFilm = 65535
+
+abbrev pub mostPlanFilm : ℕ
+mostPlanFilm = 65535
 
 abbrev pub mostDemand : ℕ
 mostDemand = 1000000
@@ -50,5 +77,15 @@ abbrev pub inRange : ℕ → ℕ → Bool
 inRange most n = leb 1 n && leb n most
 
 -- N, k and L are in range.
-abbrev pub rackAccepted : ℕ → ℕ → ℕ → Bool
-rackAccepted disks slots load = inRange mostDisks disks && (inRange mostSlots slots && inRange mostLoad load)
+abbrev pub sizesInRange : ℕ → ℕ → ℕ → Bool
+sizesInRange disks slots load = inRange mostDisks disks && (inRange mostSlots slots && inRange mostLoad load)
+
+-- Every disk has these slots and this load.
+abbrev pub allLike : ℕ → ℕ → List Disk → Bool
+allLike slots load [] = true
+allLike slots load (d ∷ ds) = (eqb slots (d .slots) && eqb load (d .load)) && allLike slots load ds
+
+-- "A rack has N equal disks", and N, k and L are in range.
+abbrev pub rackAccepted : List Disk → Bool
+rackAccepted rack =
+    sizesInRange (length rack) (firstSlots rack) (firstLoad rack) && allLike (firstSlots rack) (firstLoad rack) rack

@@ -1,37 +1,43 @@
--- The lent tables: their contents as five lists, and what they hold after planning.
-use Prim.Native.Nat.{ℕ, _+_, _-_, min}
+-- The lent tables: an entry as one number, the tables' contents as lists, and what they hold after an operation.
+use Prim.Native.Nat.{ℕ, _+_, _-_, _*_, _/_, _%_}
+use mathlib.Core.Bool.{Bool, _&&_}
 use mathlib.Core.List.{List, [], _∷_, _++_, map}
+use lib.Dec.{leb}
 use lib.ListN.{length, drop, replicate}
-use Rattle.placement.specs.Items.{Item, filmOf, amountOf}
-use Rattle.placement.specs.Rack.{Disk}
+use Rattle.placement.specs.Items.{Item, item}
+use Rattle.placement.specs.Rack.{Disk, allSlots, mostDisks, mostSlots, mostRecords}
 
--- The copy table (films and viewers), the count table, and the left table (films and amounts). The copy table and the left table
--- are each lent as two slices of numbers.
+-- An entry of film and viewers, or film and amount, is one number of 64 bits: the film in the low 32 bits, viewers or amount in the
+-- high 32 bits.
+abbrev pub entryOf : Item → ℕ
+entryOf x = x .amount * 4294967296 + x .film
+
+abbrev pub itemIn : ℕ → Item
+itemIn entry = item (entry % 4294967296) (entry / 4294967296)
+
+-- The copy table, the count table and the left table.
 pub record Tables : Type 0 where
-  pub films : List ℕ
-  pub viewers : List ℕ
+  pub copies : List ℕ
   pub counts : List ℕ
-  pub leftFilms : List ℕ
-  pub leftAmounts : List ℕ
+  pub left : List ℕ
 
-abbrev pub tables : (films viewers counts leftFilms leftAmounts : List ℕ) → Tables
-tables films viewers counts leftFilms leftAmounts = record {
-  films = films;
-  viewers = viewers;
-  counts = counts;
-  leftFilms = leftFilms;
-  leftAmounts = leftAmounts;
+abbrev pub tables : (copies counts left : List ℕ) → Tables
+tables copies counts left = record { copies = copies; counts = counts; left = left }
+
+-- Tables of these lengths have a place for each slot, each disk and each of n left films.
+abbrev pub roomIn : List Disk → ℕ → (copies counts left : ℕ) → Bool
+roomIn rack n copies counts left = leb (allSlots rack) copies && (leb (length rack) counts && leb n left)
+
+abbrev pub roomFor : List Disk → ℕ → Tables → Bool
+roomFor rack n t = roomIn rack n (length (t .copies)) (length (t .counts)) (length (t .left))
+
+-- Tables of zeros with room for the largest plan: no operation that brings them is refused 7.
+abbrev pub ownTables : Tables
+ownTables = record {
+  copies = replicate (mostDisks * mostSlots) 0;
+  counts = replicate mostDisks 0;
+  left = replicate mostRecords 0;
 }
-
--- A table of two slices has as many entries as the shorter one.
-abbrev pub copyPlaces : Tables → ℕ
-copyPlaces t = min (length (t .films)) (length (t .viewers))
-
-abbrev pub countPlaces : Tables → ℕ
-countPlaces t = length (t .counts)
-
-abbrev pub leftPlaces : Tables → ℕ
-leftPlaces t = min (length (t .leftFilms)) (length (t .leftAmounts))
 
 -- The list with zeros after it, n places in all where it has no more itself.
 abbrev pub padded : ℕ → List ℕ → List ℕ
@@ -41,18 +47,16 @@ padded n xs = xs ++ replicate (n - length xs) 0
 abbrev pub written : List ℕ → List ℕ → List ℕ
 written new old = new ++ drop (length new) old
 
--- The places of all disks, each disk's from its first place on, unused ones zero. `part` is a copy's film or its viewers.
-abbrev pub places : (Item → ℕ) → List Disk → List (List Item) → List ℕ
-places part [] copies = []
-places part (d ∷ ds) [] = padded (d .slots) [] ++ places part ds []
-places part (d ∷ ds) (copies ∷ rest) = padded (d .slots) (map part copies) ++ places part ds rest
+-- The places of all disks, each disk's copies from its first place on, unused ones zero.
+abbrev pub places : List Disk → List (List Item) → List ℕ
+places [] layout = []
+places (d ∷ ds) [] = padded (d .slots) [] ++ places ds []
+places (d ∷ ds) (copies ∷ rest) = padded (d .slots) (map entryOf copies) ++ places ds rest
 
--- The tables with a placement and what is left, of a list of n records.
-abbrev pub holding : List Disk → ℕ → List (List Item) → List Item → Tables → Tables
-holding disks n copies left t = record {
-  films = written (places filmOf disks copies) (t .films);
-  viewers = written (places amountOf disks copies) (t .viewers);
-  counts = written (map length copies) (t .counts);
-  leftFilms = written (padded n (map filmOf left)) (t .leftFilms);
-  leftAmounts = written (padded n (map amountOf left)) (t .leftAmounts);
+-- The tables with a layout and the places of the left table.
+abbrev pub holding : List Disk → List (List Item) → List ℕ → Tables → Tables
+holding rack layout left t = record {
+  copies = written (places rack layout) (t .copies);
+  counts = written (map length layout) (t .counts);
+  left = written left (t .left);
 }

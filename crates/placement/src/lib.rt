@@ -1,9 +1,15 @@
-// The vocabulary of film racks: slots, streams, the rack, the limits of document 01, and 32-bit numbers in bytes.
-mod number;
+// The vocabulary of film racks: slots, streams, the rack, the limits of document 01, entries of tables, and the room that a plan needs.
+mod entry; // entry.rt: an entry of a table as one number
+mod rack; // rack.rt: slots, streams and the rack, and their ranges
 
-pub use number::number32;
-ghost use mathlib.Core.Path.{_≡_};
-ghost use Rattle.placement.specs.Rack.{inRange, rackAccepted};
+pub use entry::entry_amount;
+pub use entry::entry_film;
+pub use entry::entry_of;
+pub use rack::Rack;
+pub use rack::Slots;
+pub use rack::Streams;
+pub use rack::accepted;
+pub use rack::room;
 
 // The limits of document 01's table.
 pub const MOST_DISKS: u32 = 64;
@@ -14,42 +20,9 @@ pub const MOST_STREAMS: u32 = 65_535;
 
 pub const MOST_RECORDS: usize = 1_024;
 
+// The largest film number in a demand list, and the largest in a plan.
 pub const MOST_FILM: u32 = 65_535;
 
+pub const MOST_PLAN_FILM: u32 = 65_535;
+
 pub const MOST_DEMAND: u32 = 1_000_000;
-
-// How many films a disk can store: 01's k.
-pub struct Slots(pub u32);
-
-// How many viewers a disk can serve at a time: 01's load L.
-pub struct Streams(pub u32);
-
-// A rack of equal disks: 01's N, k and L.
-pub struct Rack {
-    pub disks: u32,
-    pub slots: Slots,
-    pub streams: Streams,
-}
-
-// Whether a number is at least 1 and at most a limit.
-fn in_range(most: u32, n: u32) -> bool
-    ensures { λ r. ⌜ r ≡ inRange most n ⌝ }
-{
-    if n < 1 {
-        return false;
-    }
-    n <= most
-}
-
-// Whether each of the rack's numbers is in its range.
-pub fn accepted(rack: Rack) -> bool
-    ensures { λ r. ⌜ r ≡ rackAccepted (rack .disks) (rack .slots .0) (rack .streams .0) ⌝ }
-{
-    if !in_range(MOST_DISKS, rack.disks) {
-        return false;
-    }
-    if !in_range(MOST_SLOTS, rack.slots.0) {
-        return false;
-    }
-    in_range(MOST_STREAMS, rack.streams.0)
-}

@@ -1,7 +1,7 @@
 -- `placement::in_range` meets its contract: at each `return` the test that led there says what `inRange` is.
 use borrow.Author.Tests.{lt-leb, le-leb}
-use Rattle.placement.proofs.in_range.Statement.{statement}
-use Rattle.placement.proofs.in_range.Tie as tie
+use Rattle.placement.proofs.rack.in_range.Statement.{statement}
+use Rattle.placement.proofs.rack.in_range.Tie as tie
 
 returns : tie.Need-returns
 returns c = simp (lt-leb _ _ (c .if1 .taken))

@@ -1,0 +1,70 @@
+-- Plans as values, and which of them are well formed, as document 01's "Tables" has it.
+use Prim.Native.Nat.{ℕ}
+use mathlib.Core.Bool.{Bool, true, false, _&&_}
+use mathlib.Core.List.{List, [], _∷_}
+use lib.Dec.{leb, ltb, eqb}
+use lib.ListN.{length}
+use Rattle.placement.specs.Items.{Item, total, occurrences}
+use Rattle.placement.specs.Rack.{Disk, rackAccepted, inRange, mostPlanFilm, mostDemand}
+use Rattle.placement.specs.Method.{served}
+
+-- The rack, each disk's copies, and what is left.
+pub record Plan : Type 0 where
+  pub rack : List Disk
+  pub copies : List (List Item)
+  pub left : List Item
+
+-- "At most 1,024 left films."
+abbrev pub mostLeft : ℕ
+mostLeft = 1024
+
+-- A test of every item.
+abbrev pub every : (Item → Bool) → List Item → Bool
+every test [] = true
+every test (x ∷ xs) = test x && every test xs
+
+-- No film stands twice in the list.
+abbrev pub distinctFilms : List Item → Bool
+distinctFilms [] = true
+distinctFilms (x ∷ xs) = eqb (occurrences (x .film) xs) 0 && distinctFilms xs
+
+-- A film in 1 to 65,535 "with 1 or more viewers".
+abbrev pub copyAccepted : Item → Bool
+copyAccepted x = inRange mostPlanFilm (x .film) && leb 1 (x .amount)
+
+-- "At most k copies a disk, its films distinct and in 1 to 65,535, each with 1 or more viewers, at most L in sum."
+abbrev pub diskAccepted : Disk → List Item → Bool
+diskAccepted d copies =
+    leb (length copies) (d .slots) && (distinctFilms copies && (every copyAccepted copies && leb (total copies) (d .load)))
+
+-- Each disk has its list of copies, and it is accepted.
+abbrev pub disksAccepted : List Disk → List (List Item) → Bool
+disksAccepted [] [] = true
+disksAccepted [] (copies ∷ rest) = false
+disksAccepted (d ∷ ds) [] = false
+disksAccepted (d ∷ ds) (copies ∷ rest) = diskAccepted d copies && disksAccepted ds rest
+
+-- The films ascend strictly, the first one above a number.
+abbrev pub ascendingAbove : ℕ → List Item → Bool
+ascendingAbove film [] = true
+ascendingAbove film (x ∷ xs) = ltb film (x .film) && ascendingAbove (x .film) xs
+
+-- A film in 1 to 65,535 with an amount in 1 to 1,000,000.
+abbrev pub leftFilmAccepted : Item → Bool
+leftFilmAccepted x = inRange mostPlanFilm (x .film) && inRange mostDemand (x .amount)
+
+-- "At most 1,024 left films, strictly ascending, in range, each amount 1 to 1,000,000."
+abbrev pub leftAccepted : List Item → Bool
+leftAccepted left = leb (length left) mostLeft && (ascendingAbove 0 left && every leftFilmAccepted left)
+
+-- 01's well-formed plan, but for the unused copy places, which a plan value does not have.
+abbrev pub wellFormed : Plan → Bool
+wellFormed p = rackAccepted (p .rack) && (disksAccepted (p .rack) (p .copies) && leftAccepted (p .left))
+
+-- "Its S and U are the sums over its tables."
+abbrev pub servedOf : Plan → ℕ
+servedOf p = served (p .copies)
+
+-- U is the sum over what is left.
+abbrev pub unservedOf : Plan → ℕ
+unservedOf p = total (p .left)

@@ -1,0 +1,51 @@
+-- Plans that are well formed, and plans of which each breaks one rule.
+use Prim.Native.Nat.{ℕ, zero, suc}
+use mathlib.Core.List.{List, [], _∷_}
+use lib.ListN.{replicate}
+use Rattle.placement.specs.Items.{Item, item}
+use Rattle.placement.specs.Rack.{Disk, disk, rackOf}
+use Rattle.placement.specs.Plan.{Plan}
+
+abbrev plan : List Disk → List (List Item) → List Item → Plan
+plan rack copies left = record { rack = rack; copies = copies; left = left }
+
+-- A disk with two slots and load 5, its copies and what is left.
+abbrev small : List Item → List Item → Plan
+small copies left = plan (rackOf 1 2 5) (copies ∷ []) left
+
+-- The first n films from one on, with amount 1.
+abbrev films : ℕ → ℕ → List Item
+films first zero = []
+films first (suc n) = item first 1 ∷ films (suc first) n
+
+abbrev pub formedPlans : List Plan
+formedPlans =
+    small [] []
+    ∷ small (item 2 3 ∷ item 1 2 ∷ []) (item 1 1 ∷ item 65535 1000000 ∷ [])
+    ∷ small (item 65535 5 ∷ []) (films 1 1024)
+    ∷ plan (rackOf 64 32 65535) (replicate 64 (films 1 32)) []
+    ∷ []
+
+-- By rule: the rack, the lists of copies, the copies of a disk, what is left.
+abbrev pub brokenPlans : List Plan
+brokenPlans =
+    plan [] [] []
+    ∷ plan (rackOf 1 33 5) ([] ∷ []) []
+    ∷ plan (rackOf 1 2 65536) ([] ∷ []) []
+    ∷ plan (disk 2 5 ∷ disk 2 4 ∷ []) ([] ∷ [] ∷ []) []
+    ∷ plan (rackOf 2 2 5) ([] ∷ []) []
+    ∷ plan (rackOf 1 2 5) ([] ∷ [] ∷ []) []
+    ∷ small (item 7 1 ∷ item 8 1 ∷ item 9 1 ∷ []) []
+    ∷ small (item 7 1 ∷ item 7 1 ∷ []) []
+    ∷ small (item 0 1 ∷ []) []
+    ∷ small (item 65536 1 ∷ []) []
+    ∷ small (item 7 0 ∷ []) []
+    ∷ small (item 7 3 ∷ item 8 3 ∷ []) []
+    ∷ small [] (films 1 1025)
+    ∷ small [] (item 2 1 ∷ item 1 1 ∷ [])
+    ∷ small [] (item 2 1 ∷ item 2 1 ∷ [])
+    ∷ small [] (item 0 1 ∷ [])
+    ∷ small [] (item 65536 1 ∷ [])
+    ∷ small [] (item 2 0 ∷ [])
+    ∷ small [] (item 2 1000001 ∷ [])
+    ∷ []

@@ -1,0 +1,28 @@
+// An entry of the copy table or of the left table as one number: the film in the low 32 bits, viewers or amount in the high 32 bits.
+ghost use mathlib.Core.Path.{_≡_};
+ghost use Rattle.placement.specs.Items.{item};
+ghost use Rattle.placement.specs.Tables.{entryOf, itemIn};
+
+// 2³²: one more than the largest number in the low 32 bits.
+const HALF: u64 = 4_294_967_296;
+
+// The entry of a film and its viewers or amount.
+pub fn entry_of(film: u32, amount: u32) -> u64
+    ensures { λ r. ⌜ r ≡ entryOf (item film amount) ⌝ }
+{
+    amount as u64 * HALF + film as u64
+}
+
+// The film of an entry.
+pub fn entry_film(entry: u64) -> u32
+    ensures { λ r. ⌜ r ≡ itemIn entry .film ⌝ }
+{
+    (entry % HALF) as u32
+}
+
+// The viewers or the amount of an entry.
+pub fn entry_amount(entry: u64) -> u32
+    ensures { λ r. ⌜ r ≡ itemIn entry .amount ⌝ }
+{
+    (entry / HALF) as u32
+}
