@@ -1,93 +1,89 @@
 -- A call that is not refused has its places, and the steps of planning give its plan.
-use mathlib.Core.Path.{_≡_, sym, ap, ap₂, _∙_}
+use mathlib.Core.Path.{_≡_, sym, ap, ap₂, _∙_, subst}
 use mathlib.Core.Bool.{true, _&&_}
-use mathlib.Core.List.{List, [], map}
-use Prim.Native.Nat.{ℕ, _*_, _%_, _≤_, _<_, min}
+use mathlib.Core.List.{List, map}
+use Prim.Native.Nat.{ℕ, _<_}
 use native.Mathlib.Omega.{arith}
 use borrow.Author.Tests.{leb-true}
-use lib.Dec.{leb, eqb}
+use lib.Dec.{leb}
 use lib.ListN.{length}
-use Rattle.placement.specs.Items.{Item, total, filmOf, amountOf, listOf, byFilm}
-use Rattle.placement.specs.Rack.{rackAccepted, mostRecords}
-use Rattle.placement.specs.Records.{planned, judgeRecords}
+use Rattle.refusal.specs.Verdict.{given, answered}
+use Rattle.placement.specs.Items.{Item, total, amountOf, listOf, byFilm}
+use Rattle.placement.specs.Rack.{allSlots, mostDemand}
+use Rattle.placement.specs.Records.{recordCount}
 use Rattle.placement.specs.Method.{placement, remaining, served, unserved}
-use Rattle.placement.specs.Tables.{Tables, tables, copyPlaces, leftPlaces, padded, written, places, holding}
-use Rattle.placement.specs.Planning.{Call, recordCount, recordsIn, disksIn, roomFor, verdict, answerFor, tablesFor}
-use Rattle.placement.specs.WellFormed.{CallWellFormed}
-use Rattle.placement.proofs.Verdicts.{unless-planned, both-true}
-use Rattle.placement.proofs.Bounds.{call-wellFormed}
-use Rattle.placement.proofs.ByFilm.{byFilm-length}
-use Rattle.planner.specs.Answers.{numbersOfPlan}
+use Rattle.placement.specs.Tables.{Tables, tables, entryOf, padded, written, places, holding}
+use Rattle.placement.specs.Planning.{Call, PlanSums, sums, recordsIn, verdict, answerFor, holdingCall}
+use Rattle.placement.specs.Promise.{Distinct}
+use Rattle.placement.specs.WellFormed.{Each, Entry, CallWellFormed}
+use Rattle.placement.proofs.Conjunctions.{both-true}
+use Rattle.placement.proofs.ByFilm.{sumBy-byFilm, byFilm-length}
+use Rattle.placement.proofs.Listed.{listOf-distinct}
+use Rattle.placement.proofs.WellFormed.{accepted-usable, listOf-entries, remaining-distinct}
+use Rattle.placement.proofs.Calls.{call-judged, call-wellFormed}
+use Rattle.planner.specs.declared.answer.Answer.the-variants.{Planned}
+use Rattle.planner.specs.Answers.{planNumbers}
 use Rattle.planner.specs.Plannable.{Plannable}
 
-module _ (c : Call) (t : Tables) (e : verdict c t ≡ planned) where
-  -- The test for room holds.
-  room-passed : roomFor c t ≡ true
-  room-passed =
-      let rack = unless-planned (rackAccepted (c .disks) (c .slots) (c .streams)) 1 0 _ e in
-      let whole = unless-planned (eqb (length (c .list) % 8) 0) 2 0 _ (rack .1) in
-      let count = unless-planned (leb (recordCount c) mostRecords) 3 0 _ (whole .1) in
-      unless-planned (roomFor c t) 7 0 (judgeRecords [] 1 (recordsIn c)) (count .1) .0
+-- A call that is not refused can be planned.
+pub plannable : (c : Call) (t : Tables) → verdict c t ≡ given tt → Plannable c t
+plannable c t e = record {
+  formed = call-wellFormed c t e;
+  copies = leb-true (allSlots (c .rack)) (length (t .copies)) (outer .0);
+  counts = leb-true (length (c .rack)) (length (t .counts)) (inner .0);
+  left = leb-true (recordCount (c .list)) (length (t .left)) (inner .1);
+}
+  where
+    outer : (leb (allSlots (c .rack)) (length (t .copies)) ≡ true) × ((leb (length (c .rack)) (length (t .counts)) && leb (recordCount (c .list)) (length (t .left))) ≡ true)
+    outer = both-true (leb (allSlots (c .rack)) (length (t .copies))) _ (call-judged c t e .2)
 
-  -- A call that is not refused can be planned.
-  pub plannable : Plannable c t
-  plannable = record {
-    formed = call-wellFormed c t e;
-    films = omega (arith, copies);
-    viewers = omega (arith, copies);
-    counts = leb-true (c .disks) (length (t .counts)) (behind .0);
-    leftFilms = omega (arith, lefts);
-    leftAmounts = omega (arith, lefts);
-  }
-    where
-      outer : (leb (c .disks * c .slots) (copyPlaces t) ≡ true) × ((leb (c .disks) (length (t .counts)) && leb (recordCount c) (leftPlaces t)) ≡ true)
-      outer = both-true _ _ room-passed
+    inner : (leb (length (c .rack)) (length (t .counts)) ≡ true) × (leb (recordCount (c .list)) (length (t .left)) ≡ true)
+    inner = both-true (leb (length (c .rack)) (length (t .counts))) _ (outer .1)
 
-      behind : (leb (c .disks) (length (t .counts)) ≡ true) × (leb (recordCount c) (leftPlaces t) ≡ true)
-      behind = both-true _ _ (outer .1)
-
-      copies : c .disks * c .slots ≤ min (length (t .films)) (length (t .viewers))
-      copies = leb-true (c .disks * c .slots) (copyPlaces t) (outer .0)
-
-      lefts : recordCount c ≤ min (length (t .leftFilms)) (length (t .leftAmounts))
-      lefts = leb-true (recordCount c) (leftPlaces t) (behind .1)
-
--- Tables with the same five lists are the same.
-tables-same :
-    {f f' v v' c c' lf lf' la la' : List ℕ} → f ≡ f' → v ≡ v' → c ≡ c' → lf ≡ lf' → la ≡ la'
-    → tables f v c lf la ≡ tables f' v' c' lf' la'
-tables-same {f} {f'} {v} {v'} {c} {c'} {lf} {lf'} {la} {la'} p q r s u =
-    ap₂ (λ (x y : List ℕ). tables x y c lf la) p q ∙ ap₂ (λ (x y : List ℕ). tables f' v' x y la) r s
-    ∙ ap (λ (x : List ℕ). tables f' v' c' lf' x) u
+-- Tables with the same three lists are the same.
+tables-same : {c c' n n' l l' : List ℕ} → c ≡ c' → n ≡ n' → l ≡ l' → tables c n l ≡ tables c' n' l'
+tables-same {c} {c'} {n} {n'} {l} {l'} p q r =
+    ap₂ (λ (x y : List ℕ). tables x y l) p q ∙ ap (λ (x : List ℕ). tables c' n' x) r
 
 -- The lists that planning goes through: the records' list, and what remains of it after all disks.
-module _ (c : Call) {first last : List Item} (built : first ≡ listOf (recordsIn c)) (remains : last ≡ remaining (disksIn c) first) where
-  last-remains : last ≡ remaining (disksIn c) (listOf (recordsIn c))
-  last-remains = remains ∙ ap (remaining (disksIn c)) built
+module _ (c : Call) (formed : CallWellFormed c) {first : List Item} (built : first ≡ listOf (recordsIn c)) where
+  -- The records' list holds entries.
+  pub first-entries : Each (Entry mostDemand) first
+  first-entries = subst (λ (xs : List Item). Each (Entry mostDemand) xs) (sym built) (listOf-entries (recordsIn c) (formed .accepted))
 
-  -- What is left in the end fits 32 bits in sum.
-  pub left-small : CallWellFormed c → total last < 4294967296
-  left-small formed = omega (arith, formed .unservedMost, ap total last-remains)
+  module _ {last : List Item} (remains : last ≡ remaining (c .rack) first) where
+    last-remains : last ≡ remaining (c .rack) (listOf (recordsIn c))
+    last-remains = remains ∙ ap (remaining (c .rack)) built
 
-  -- Slices that hold the steps' results hold the plan of the call.
-  pub steps-tables :
-      (exit t : Tables)
-      → exit .films ≡ written (places filmOf (disksIn c) (placement (disksIn c) first)) (t .films)
-      → exit .viewers ≡ written (places amountOf (disksIn c) (placement (disksIn c) first)) (t .viewers)
-      → exit .counts ≡ written (map length (placement (disksIn c) first)) (t .counts)
-      → exit .leftFilms ≡ written (padded (recordCount c) (map filmOf (byFilm last))) (t .leftFilms)
-      → exit .leftAmounts ≡ written (padded (recordCount c) (map amountOf (byFilm last))) (t .leftAmounts)
-      → exit ≡ tablesFor c t planned
-  steps-tables exit t films viewers counts leftFilms leftAmounts =
-      tables-same films viewers counts leftFilms leftAmounts
-      ∙ ap₂ (λ (f l : List Item). holding (disksIn c) (recordCount c) (placement (disksIn c) f) (byFilm l) t) built last-remains
+    -- What is left in the end fits 32 bits in sum.
+    pub left-small : total last < 4294967296
+    left-small =
+        omega (arith, formed .unservedMost, sumBy-byFilm amountOf (remaining (c .rack) (listOf (recordsIn c))), ap total last-remains)
 
-  -- The steps' numbers are the numbers of the plan.
-  pub steps-numbers :
-      {s u n : ℕ} → s ≡ served (placement (disksIn c) first) → u ≡ total last → n ≡ length last
-      → numbersOfPlan s u n ≡ answerFor c planned
-  steps-numbers {s} {u} {n} serves lacks count =
-      ap₂ (λ (a b : ℕ). numbersOfPlan a b n) (serves ∙ ap (λ (f : List Item). served (placement (disksIn c) f)) built)
-      (lacks ∙ ap total last-remains)
-      ∙ ap (λ (m : ℕ). numbersOfPlan (served (placement (disksIn c) (listOf (recordsIn c)))) (unserved (disksIn c) (listOf (recordsIn c))) m)
-      (count ∙ ap length last-remains ∙ sym (byFilm-length (remaining (disksIn c) (listOf (recordsIn c)))))
+    -- The films that are left are distinct.
+    pub left-distinct : Distinct last
+    left-distinct =
+        subst Distinct (sym last-remains)
+        (remaining-distinct (c .rack) (listOf (recordsIn c)) (accepted-usable (c .rack) (formed .rack))
+        (listOf-distinct (recordsIn c) (formed .accepted .distinct)))
+
+    -- Tables that hold the steps' results hold the plan of the call.
+    pub steps-tables :
+        (exit t : Tables) → exit .copies ≡ written (places (c .rack) (placement (c .rack) first)) (t .copies)
+        → exit .counts ≡ written (map length (placement (c .rack) first)) (t .counts)
+        → exit .left ≡ written (padded (recordCount (c .list)) (map entryOf (byFilm last))) (t .left)
+        → exit ≡ holdingCall c t
+    steps-tables exit t copies counts left =
+        tables-same copies counts left
+        ∙ ap₂ (λ (f l : List Item). holding (c .rack) (placement (c .rack) f) (padded (recordCount (c .list)) (map entryOf (byFilm l))) t) built
+        last-remains
+
+    -- The steps' numbers are the numbers of the plan.
+    pub steps-numbers :
+        {s u n : ℕ} → s ≡ served (placement (c .rack) first) → u ≡ total last → n ≡ length last
+        → planNumbers (Planned s u n) ≡ answerFor c (given tt)
+    steps-numbers {s} {u} {n} serves lacks count =
+        ap (λ (v : PlanSums). answered (sums 0 0 0) (λ (w : PlanSums). w) (given v))
+        (ap₂ (λ (a b : ℕ). sums a b n) (serves ∙ ap (λ (f : List Item). served (placement (c .rack) f)) built) (lacks ∙ ap total last-remains)
+        ∙ ap (λ (m : ℕ). sums (served (placement (c .rack) (listOf (recordsIn c)))) (unserved (c .rack) (listOf (recordsIn c))) m)
+        (count ∙ ap length last-remains ∙ sym (byFilm-length (remaining (c .rack) (listOf (recordsIn c))))))

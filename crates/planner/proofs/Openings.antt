@@ -2,7 +2,7 @@
 use mathlib.Core.Path.{_≡_, refl, sym, ap, _∙_, subst}
 use mathlib.Core.Bool.{Bool, cond}
 use mathlib.Core.List.{List}
-use Prim.Native.Nat.{ℕ, suc, _+_, _-_, _/_, _≤_, _<_, min}
+use Prim.Native.Nat.{ℕ, suc, _+_, _-_, _≤_, _<_, min}
 use native.Mathlib.Nat.{sub-zero}
 use native.Mathlib.Numerals.{add-one}
 use native.Mathlib.Omega.{arith}
@@ -10,9 +10,9 @@ use borrow.Author.Tests.{le-leb, lt-leb}
 use lib.ListN.{length, take, getD}
 use Rattle.placement.specs.Items.{total}
 use Rattle.placement.specs.Window.{Window, window, series, openings, firstReaching}
-use Rattle.planner.specs.Keys.{itemsOf}
 use Rattle.planner.specs.Search.{Opened}
-use Rattle.planner.proofs.Places.{length-itemsOf}
+use Rattle.placement.proofs.ReadBack.{front-length}
+use Rattle.planner.specs.Keys.{itemsOf, itemOf}
 use Rattle.planner.proofs.Runs.{prefix-more}
 use Rattle.planner.proofs.Search.{search-passes, search-finds}
 
@@ -24,12 +24,12 @@ prefix m = window 0 m
 pub record OpeningsPassed (keys : List ℕ) (n slots load most count sum : ℕ) : Type 0 where
   pub most-is : most ≡ min slots n
   pub few : count ≤ most
-  pub sums : sum ≡ total (take count (itemsOf keys n))
+  pub sums : sum ≡ total (take count (itemsOf n keys))
   pub low : sum < load
   pub search :
       (other : Window)
-      → firstReaching load (itemsOf keys n) (series prefix 1 most) other
-      ≡ firstReaching load (itemsOf keys n) (series prefix (suc count) (most - count)) other
+      → firstReaching load (itemsOf n keys) (series prefix 1 most) other
+      ≡ firstReaching load (itemsOf n keys) (series prefix (suc count) (most - count)) other
 
 -- At first no film is passed.
 pub openings-begin : (keys : List ℕ) (n slots load most : ℕ) → most ≡ min slots n → 1 ≤ load → OpeningsPassed keys n slots load most 0 0
@@ -38,36 +38,36 @@ openings-begin keys n slots load most e some = record {
   few = omega arith;
   sums = refl;
   low = some;
-  search = λ other. ap (λ (m : ℕ). firstReaching load (itemsOf keys n) (series prefix 1 m) other) (sym (sub-zero most));
+  search = λ other. ap (λ (m : ℕ). firstReaching load (itemsOf n keys) (series prefix 1 m) other) (sym (sub-zero most));
 }
 
 module _ {keys : List ℕ} {n slots load most count sum : ℕ} (room : n ≤ length keys) (p : OpeningsPassed keys n slots load most count sum) where
   -- The search through the openings goes on behind the films passed.
   goes-on :
       (other : Window)
-      → firstReaching load (itemsOf keys n) (openings slots (length (itemsOf keys n))) other
-      ≡ firstReaching load (itemsOf keys n) (series prefix (suc count) (most - count)) other
+      → firstReaching load (itemsOf n keys) (openings slots (length (itemsOf n keys))) other
+      ≡ firstReaching load (itemsOf n keys) (series prefix (suc count) (most - count)) other
   goes-on other =
-      ap (λ (m : ℕ). firstReaching load (itemsOf keys n) (series prefix 1 m) other)
-      (ap (λ (m : ℕ). min slots m) (length-itemsOf keys n room) ∙ sym (p .most-is))
+      ap (λ (m : ℕ). firstReaching load (itemsOf n keys) (series prefix 1 m) other)
+      (ap (λ (m : ℕ). min slots m) (front-length n keys room) ∙ sym (p .most-is))
       ∙ p .search other
 
   -- No film is left.
-  pub openings-end : most ≤ count → Opened slots load (itemsOf keys n) count sum
+  pub openings-end : most ≤ count → Opened slots load (itemsOf n keys) count sum
   openings-end h = record {
     search = λ other.
         goes-on other
-        ∙ ap (λ (m : ℕ). firstReaching load (itemsOf keys n) (series prefix (suc count) m) other) none-left
+        ∙ ap (λ (m : ℕ). firstReaching load (itemsOf n keys) (series prefix (suc count) m) other) none-left
         ∙ sym (ap (λ (b : Bool). cond b (window 0 count) other) (lt-leb load sum (p .low)));
     sums = p .sums;
-    longest = λ _. omega (arith, p .most-is, p .few, ap (λ (m : ℕ). min slots m) (length-itemsOf keys n room));
+    longest = λ _. omega (arith, p .most-is, p .few, ap (λ (m : ℕ). min slots m) (front-length n keys room));
   }
     where
       none-left : most - count ≡ 0
       none-left = omega arith
 
-  module _ {a : ℕ} (a-is : a ≡ getD keys count 0 / 65536) (h : count < most) where
-    sums-more : sum + a ≡ total (take (suc count) (itemsOf keys n))
+  module _ {a : ℕ} (a-is : a ≡ itemOf (getD keys count 0) .amount) (h : count < most) where
+    sums-more : sum + a ≡ total (take (suc count) (itemsOf n keys))
     sums-more = omega (arith, prefix-more keys n room count (omega (arith, p .most-is)), p .sums, a-is)
 
     one-left : most - count ≡ suc (most - suc count)
@@ -84,18 +84,18 @@ module _ {keys : List ℕ} {n slots load most count sum : ℕ} (room : n ≤ len
           low = low;
           search = λ other.
               p .search other
-              ∙ search-passes load (itemsOf keys n) prefix other (suc count) (most - count) (most - suc count) one-left
+              ∙ search-passes load (itemsOf n keys) prefix other (suc count) (most - count) (most - suc count) one-left
               (subst (λ (t : ℕ). t < load) sums-more low);
         })
 
     -- One film more reaches the load.
-    pub openings-find : load ≤ sum + a → Opened slots load (itemsOf keys n) (count + 1) (sum + a)
+    pub openings-find : load ≤ sum + a → Opened slots load (itemsOf n keys) (count + 1) (sum + a)
     openings-find high =
         rw add-one
         (record {
           search = λ other.
               goes-on other
-              ∙ search-finds load (itemsOf keys n) prefix other (suc count) (most - count) (most - suc count) one-left
+              ∙ search-finds load (itemsOf n keys) prefix other (suc count) (most - count) (most - suc count) one-left
               (subst (λ (t : ℕ). load ≤ t) sums-more high)
               ∙ sym (ap (λ (b : Bool). cond b (window 0 (suc count)) other) (le-leb load (sum + a) high));
           sums = sums-more;

@@ -2,19 +2,13 @@
 use mathlib.Core.Path.{_≡_, refl, sym, ap, _∙_}
 use mathlib.Core.List.{List, [], _∷_, _++_}
 use Prim.Native.Nat.{ℕ, _+_, _-_, _≤_, _<_}
-use native.Mathlib.Nat.{sub-zero}
 use native.Mathlib.Omega.{arith}
 use Rattle.placement.specs.Items.{Item, item, total, amountOf}
 use Rattle.placement.specs.Disk.{allButLast, lastFilm, stored}
 use Rattle.placement.proofs.Tests.{by-order}
 use Rattle.placement.proofs.Disks.{split-last, sumBy-last, some-film, stored-below, stored-reaching}
 use Rattle.planner.specs.Copies.{lessLast}
-
--- Nothing less.
-lessLast-none : (xs : List Item) → lessLast 0 xs ≡ xs
-lessLast-none [] = refl
-lessLast-none (x ∷ []) = ap (λ (a : ℕ). item (x .film) a ∷ []) (sub-zero (x .amount))
-lessLast-none (x ∷ y ∷ ys) = ap (λ (r : List Item). x ∷ r) (lessLast-none (y ∷ ys))
+use Rattle.planner.proofs.Copies.{lessLast-none}
 
 -- Less for the last item of a list that ends in it.
 lessLast-end :

@@ -1,13 +1,13 @@
--- The films of a window as they are stored.
+-- A run of the working list as it is stored.
 use Prim.Native.Nat.{ℕ, _-_}
-use mathlib.Core.List.{List, [], _∷_, map}
-use lib.ListN.{take, drop}
+use mathlib.Core.List.{List, [], _∷_}
+use lib.ListN.{drop}
 use Rattle.placement.specs.Items.{Item, item}
-use Rattle.planner.specs.Keys.{itemOf}
+use Rattle.planner.specs.Keys.{itemsOf}
 
 -- The items of `size` keys from `start` on.
 abbrev pub runOf : List ℕ → ℕ → ℕ → List Item
-runOf keys start size = map itemOf (take size (drop start keys))
+runOf keys start size = itemsOf size (drop start keys)
 
 -- The list with `over` less for the last item.
 abbrev pub lessLast : ℕ → List Item → List Item

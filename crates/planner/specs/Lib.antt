@@ -1,7 +1,7 @@
+pub mod Ascending
 pub mod Keys
 pub mod Answers
-pub mod Verdicts
 pub mod Search
 pub mod Copies
+pub mod Verdicts
 pub mod Plannable
-pub mod Numbers

@@ -1,19 +1,23 @@
 // Filling disks: the next list after a window, one disk, and all disks in order.
 use crate::key;
-use crate::key::FILMS;
-use crate::store;
-use crate::window;
+use crate::store::store_entries;
+use crate::window::find_window;
 use crate::worklist;
+use placement::Rack;
+use placement::Slots;
+use placement::Streams;
 ghost use mathlib.Core.Path.{_≡_};
+ghost use mathlib.Core.Bool.{true};
 ghost use mathlib.Core.List.{map};
-ghost use Prim.Native.Nat.{_+_, _-_, _*_, _≤_};
+ghost use Prim.Native.Nat.{_+_, _-_, _≤_, _<_};
 ghost use lib.ListN.{length};
-ghost use Rattle.placement.specs.Items.{item, enter, total, filmOf, amountOf};
-ghost use Rattle.placement.specs.Rack.{disk, rackOf};
+ghost use Rattle.placement.specs.Items.{item, enter, total};
+ghost use Rattle.placement.specs.Rack.{disk, disksOf, allSlots, rackAccepted, mostLoad, mostDemand};
 ghost use Rattle.placement.specs.Window.{window, outside};
 ghost use Rattle.placement.specs.Disk.{lastFilm, copiesOf, listAfter};
 ghost use Rattle.placement.specs.Method.{placement, remaining, served as servedBy};
-ghost use Rattle.placement.specs.Tables.{padded, written, places};
+ghost use Rattle.placement.specs.Tables.{entryOf, padded, written, places};
+ghost use Rattle.placement.specs.WellFormed.{Each, Entry};
 ghost use Rattle.planner.specs.Keys.{itemsOf};
 ghost use Rattle.planner.specs.Copies.{runOf};
 
@@ -36,10 +40,10 @@ fn excess(sum: u64, load: u64) -> u64
 
 // Takes a window out of the list. `over` remains of its last film and returns to its sorted place. Answers how many films
 // are in the list then.
-fn take_window(keys: &mut [u64], n: usize, start: usize, size: usize, over: u64) -> usize
+fn take_window(keys: &mut [u64], n: usize, start: usize, size: usize, over: u32) -> usize
     requires { ⌜ (start + size ≤ n) × (n ≤ length (now keys)) ⌝ }
     requires { ⌜ over ≤ lastFilm (runOf (now keys) start size) .amount ⌝ }
-    ensures { λ r. ⌜ itemsOf (now (keys .exit)) r ≡ enter (item (lastFilm (runOf (now (keys .entry)) start size) .film) over) (outside (window start size) (itemsOf (now (keys .entry)) n)) ⌝ }
+    ensures { λ r. ⌜ itemsOf r (now (keys .exit)) ≡ enter (item (lastFilm (runOf (now (keys .entry)) start size) .film) over) (outside (window start size) (itemsOf n (now (keys .entry)))) ⌝ }
     ensures { λ r. ⌜ r ≤ n ⌝ }
 {
     if over < 1 {
@@ -48,38 +52,37 @@ fn take_window(keys: &mut [u64], n: usize, start: usize, size: usize, over: u64)
     }
     let film = key::film(keys[start + (size - 1)]);
     worklist::remove(keys, n, start, size);
-    worklist::enter(keys, n - size, over * FILMS + film as u64)
+    worklist::enter(keys, n - size, key::make(film, over))
 }
 
-// Fills one disk: its copies go to the front of the lent tables, and what they serve leaves the list.
+// Fills one disk: its copies go to the front of the lent table, and what they serve leaves the list.
 pub(crate) fn fill_one(
-    films: &mut [u32],
-    viewers: &mut [u32],
+    copies: &mut [u64],
     keys: &mut [u64],
     n: usize,
-    slots: usize,
-    load: u64,
+    slots: Slots,
+    streams: Streams,
 ) -> Step
-    requires { ⌜ (slots ≤ length (now films)) × (slots ≤ length (now viewers)) × (n ≤ length (now keys)) ⌝ }
-    requires { ⌜ (1 ≤ slots) × (slots ≤ 32) × (1 ≤ load) × (load ≤ 65535) ⌝ }
-    ensures { λ _. ⌜ now (films .exit) ≡ written (padded slots (map filmOf (copiesOf (disk slots load) (itemsOf (now (keys .entry)) n)))) (now (films .entry)) ⌝ }
-    ensures { λ _. ⌜ now (viewers .exit) ≡ written (padded slots (map amountOf (copiesOf (disk slots load) (itemsOf (now (keys .entry)) n)))) (now (viewers .entry)) ⌝ }
-    ensures { λ r. ⌜ itemsOf (now (keys .exit)) (r .left) ≡ listAfter (disk slots load) (itemsOf (now (keys .entry)) n) ⌝ }
-    ensures { λ r. ⌜ (r .copies ≡ length (copiesOf (disk slots load) (itemsOf (now (keys .entry)) n))) × (r .served ≡ total (copiesOf (disk slots load) (itemsOf (now (keys .entry)) n))) ⌝ }
-    ensures { λ r. ⌜ r .left ≤ n ⌝ }
+    requires { ⌜ (slots .0 ≤ length (now copies)) × (n ≤ length (now keys)) ⌝ }
+    requires { ⌜ (1 ≤ slots .0) × (1 ≤ streams .0) × (streams .0 ≤ mostLoad) × Each (Entry mostDemand) (itemsOf n (now keys)) ⌝ }
+    ensures { λ _. ⌜ now (copies .exit) ≡ written (padded (slots .0) (map entryOf (copiesOf (disk (slots .0) (streams .0)) (itemsOf n (now (keys .entry)))))) (now (copies .entry)) ⌝ }
+    ensures { λ r. ⌜ (itemsOf (r .left) (now (keys .exit)) ≡ listAfter (disk (slots .0) (streams .0)) (itemsOf n (now (keys .entry)))) × (r .left ≤ n) ⌝ }
+    ensures { λ r. ⌜ r .copies ≡ length (copiesOf (disk (slots .0) (streams .0)) (itemsOf n (now (keys .entry)))) ⌝ }
+    ensures { λ r. ⌜ r .served ≡ total (copiesOf (disk (slots .0) (streams .0)) (itemsOf n (now (keys .entry)))) ⌝ }
 {
-    let found = window::find_window(keys, n, slots, load);
+    let places = slots.0 as usize;
+    let load = streams.0 as u64;
+    let found = find_window(keys, n, places, load);
     let start = found.start;
     let size = found.size;
     let sum = found.sum;
-    let over = excess(sum, load);
-    store::store_films(films, keys, start, size, slots);
-    store::store_viewers(viewers, keys, start, size, over, slots);
+    let over = excess(sum, load) as u32;
+    store_entries(copies, keys, start, size, over, places);
     let left = take_window(keys, n, start, size, over);
     Step {
         left,
         copies: size as u32,
-        served: sum - over,
+        served: sum - over as u64,
     }
 }
 
@@ -89,42 +92,32 @@ pub(crate) struct Filled {
     pub(crate) served: u64,
 }
 
-// Fills the disks in order. Each disk's copies are written from its first place on: the part of the copy table from there on
-// is lent to the step that fills the disk.
+// Fills the disks in order. The part of the copy table from a disk's first place on is lent to the step that fills the disk.
 pub(crate) fn fill_all(
-    films: &mut [u32],
-    viewers: &mut [u32],
+    copies: &mut [u64],
     counts: &mut [u32],
     keys: &mut [u64],
     n: usize,
-    disks: usize,
-    slots: usize,
-    load: u64,
+    rack: Rack,
 ) -> Filled
-    requires { ⌜ (disks * slots ≤ length (now films)) × (disks * slots ≤ length (now viewers)) × (disks ≤ length (now counts)) × (n ≤ length (now keys)) ⌝ }
-    requires { ⌜ (disks ≤ 64) × (1 ≤ slots) × (slots ≤ 32) × (1 ≤ load) × (load ≤ 65535) ⌝ }
-    ensures { λ _. ⌜ now (films .exit) ≡ written (places filmOf (rackOf disks slots load) (placement (rackOf disks slots load) (itemsOf (now (keys .entry)) n))) (now (films .entry)) ⌝ }
-    ensures { λ _. ⌜ now (viewers .exit) ≡ written (places amountOf (rackOf disks slots load) (placement (rackOf disks slots load) (itemsOf (now (keys .entry)) n))) (now (viewers .entry)) ⌝ }
-    ensures { λ _. ⌜ now (counts .exit) ≡ written (map length (placement (rackOf disks slots load) (itemsOf (now (keys .entry)) n))) (now (counts .entry)) ⌝ }
-    ensures { λ r. ⌜ (itemsOf (now (keys .exit)) (r .left) ≡ remaining (rackOf disks slots load) (itemsOf (now (keys .entry)) n)) × (r .left ≤ n) ⌝ }
-    ensures { λ r. ⌜ r .served ≡ servedBy (placement (rackOf disks slots load) (itemsOf (now (keys .entry)) n)) ⌝ }
+    requires { ⌜ (allSlots (disksOf rack) ≤ length (now copies)) × (length (disksOf rack) ≤ length (now counts)) × (n ≤ length (now keys)) ⌝ }
+    requires { ⌜ (rackAccepted (disksOf rack) ≡ true) × Each (Entry mostDemand) (itemsOf n (now keys)) ⌝ }
+    ensures { λ _. ⌜ now (copies .exit) ≡ written (places (disksOf rack) (placement (disksOf rack) (itemsOf n (now (keys .entry))))) (now (copies .entry)) ⌝ }
+    ensures { λ _. ⌜ now (counts .exit) ≡ written (map length (placement (disksOf rack) (itemsOf n (now (keys .entry))))) (now (counts .entry)) ⌝ }
+    ensures { λ r. ⌜ (itemsOf (r .left) (now (keys .exit)) ≡ remaining (disksOf rack) (itemsOf n (now (keys .entry)))) × (r .left ≤ n) ⌝ }
+    ensures { λ r. ⌜ r .served ≡ servedBy (placement (disksOf rack) (itemsOf n (now (keys .entry)))) ⌝ }
 {
+    let disks = rack.disks as usize;
     let mut filled = 0;
+    let mut first = 0;
     let mut left = n;
     let mut served = 0;
     while filled < disks {
-        let first = filled * slots;
-        let step = fill_one(
-            &mut films[first..],
-            &mut viewers[first..],
-            keys,
-            left,
-            slots,
-            load,
-        );
+        let step = fill_one(&mut copies[first..], keys, left, rack.slots, rack.streams);
         counts[filled] = step.copies;
         left = step.left;
         served += step.served;
+        first += rack.slots.0 as usize;
         filled += 1;
     }
     Filled { left, served }

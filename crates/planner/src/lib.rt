@@ -1,75 +1,44 @@
 // Planning: the bytes of a demand list to the lent tables, in steps of one module each.
-mod answer_numbers; // answer_numbers.rt: the numbers of an answer
+mod answer; // answer.rt: what planning answers
 mod build; // build.rt: the list of the method from the records
 mod fill; // fill.rt: one disk filled, and all disks
 mod fulfil; // fulfil.rt: the plan of a list that is not refused
 mod judge; // judge.rt: the refusals of planning
-mod key; // key.rt: the two parts of a key
+mod key; // key.rt: a film with its amount as one number
 mod left; // left.rt: the left table
-mod records; // records.rt: the records in the bytes of a list, and their faults
-mod store; // store.rt: the copies of one disk
+mod store; // store.rt: entries in a lent table
 mod window; // window.rt: the window of a disk
-mod worklist; // worklist.rt: the list of the method as packed keys
+mod worklist; // worklist.rt: the list of the method as ascending numbers
 
-pub use answer_numbers::PlanNumbers;
-pub use answer_numbers::numbers;
+pub use answer::Answer;
 use fulfil::fill_tables;
 use judge::judge;
 use placement::Rack;
+use refusal::Judgement;
+ghost use Rattle.placement.specs.Rack.{disksOf};
 ghost use Rattle.placement.specs.Tables.{tables};
+ghost use Rattle.placement.specs.Planning.{call};
 ghost use Rattle.placement.specs.PlanPromise.{PlanPromise};
-ghost use Rattle.planner.specs.Answers.{numbersOf};
-ghost use Rattle.planner.specs.Verdicts.{callOf};
+ghost use Rattle.planner.specs.Answers.{planNumbers};
 
-// What planning answers: a plan's numbers, or a refusal. specs/Answers.antt gives document 01's number and values for each case.
-pub enum Answer {
-    Planned {
-        served: u64,
-        unserved: u64,
-        left: u32,
-    },
-    RackOutOfRange,
-    ListLength,
-    TooManyRecords,
-    TablesTooShort,
-    FilmOutOfRange(u32),
-    DemandOutOfRange(u32),
-    FilmRepeated(u32),
-}
-
-// Plans for a rack, from the bytes of a demand list. A plan goes into the lent tables: copies as films and viewers, counts of
-// copies, and what is left as films and amounts. A refusal changes none of them.
+// Plans for a rack, from the bytes of a demand list. A plan goes into the lent tables: each disk's copies from its first place on,
+// the number of copies of each disk, and what is left. A refusal changes none of them.
 pub fn plan(
     rack: Rack,
     list: &[u8],
-    films: &mut [u32],
-    viewers: &mut [u32],
+    copies: &mut [u64],
     counts: &mut [u32],
-    leftfilms: &mut [u32],
-    leftamounts: &mut [u32],
+    left: &mut [u64],
 ) -> Answer
     ensures { λ r. ⌜ PlanPromise
-        (callOf (rack .disks) (rack .slots .0) (rack .streams .0) (now (list .entry)))
-        (tables (now (films .entry)) (now (viewers .entry)) (now (counts .entry)) (now (leftfilms .entry)) (now (leftamounts .entry)))
-        (tables (now (films .exit)) (now (viewers .exit)) (now (counts .exit)) (now (leftfilms .exit)) (now (leftamounts .exit)))
-        (numbersOf r) ⌝ }
+        (call (disksOf rack) (now (list .entry)))
+        (tables (now (copies .entry)) (now (counts .entry)) (now (left .entry)))
+        (tables (now (copies .exit)) (now (counts .exit)) (now (left .exit)))
+        (planNumbers r) ⌝ }
 {
-    let judged = judge(
-        rack,
-        list,
-        films.len(),
-        viewers.len(),
-        counts.len(),
-        leftfilms.len(),
-        leftamounts.len(),
-    );
-    let Answer::Planned {
-        served: _,
-        unserved: _,
-        left: _,
-    } = judged
-    else {
-        return judged;
-    };
-    fill_tables(rack, list, films, viewers, counts, leftfilms, leftamounts)
+    let judged = judge(rack, list, copies.len(), counts.len(), left.len());
+    if let Judgement::Refused(refusal) = judged {
+        return Answer::Refused(refusal);
+    }
+    fill_tables(rack, list, copies, counts, left)
 }

@@ -1,71 +1,47 @@
-// One disk's copies in the lent part of the copy table: its window's films and their viewers, zero entries behind.
+// Entries in a lent table: a run of the working list, zero entries behind.
 use crate::key;
+use placement::entry_of;
 ghost use mathlib.Core.Path.{_≡_};
 ghost use mathlib.Core.List.{map};
-ghost use Prim.Native.Nat.{_+_, _≤_};
+ghost use Prim.Native.Nat.{_+_, _≤_, _<_};
 ghost use lib.ListN.{length, getD};
-ghost use Rattle.placement.specs.Items.{total, filmOf, amountOf};
-ghost use Rattle.placement.specs.Tables.{padded, written};
+ghost use Rattle.placement.specs.Disk.{lastFilm};
+ghost use Rattle.placement.specs.Tables.{entryOf, padded, written};
 ghost use Rattle.planner.specs.Copies.{runOf, lessLast};
 
-// The film at a place of the disk, 0 behind the window.
-fn film_at(keys: &[u64], start: usize, size: usize, place: usize) -> u32
+// The entry at a place: the run's key, `over` less for its last one, and 0 behind the run.
+fn entry_at(keys: &[u64], start: usize, size: usize, over: u32, place: usize) -> u64
     requires { ⌜ start + size ≤ length (now keys) ⌝ }
-    ensures { λ r. ⌜ r ≡ getD (map filmOf (runOf (now (keys .entry)) start size)) place 0 ⌝ }
+    requires { ⌜ over ≤ lastFilm (runOf (now keys) start size) .amount ⌝ }
+    ensures { λ r. ⌜ r ≡ getD (map entryOf (lessLast over (runOf (now (keys .entry)) start size))) place 0 ⌝ }
 {
     if size <= place {
         return 0;
     }
-    key::film(keys[start + place])
-}
-
-// The viewers at a place of the disk: the film's amount, less `over` for the window's last film, and 0 behind the window.
-fn viewers_at(keys: &[u64], start: usize, size: usize, over: u64, place: usize) -> u32
-    requires { ⌜ start + size ≤ length (now keys) ⌝ }
-    requires { ⌜ total (lessLast over (runOf (now keys) start size)) + over ≡ total (runOf (now keys) start size) ⌝ }
-    requires { ⌜ total (lessLast over (runOf (now keys) start size)) ≤ 65535 ⌝ }
-    ensures { λ r. ⌜ r ≡ getD (map amountOf (lessLast over (runOf (now (keys .entry)) start size))) place 0 ⌝ }
-{
-    if size <= place {
-        return 0;
-    }
-    let amount = key::amount(keys[start + place]);
+    let key = keys[start + place];
     if place + 1 < size {
-        return amount as u32;
+        return key::as_entry(key);
     }
-    (amount - over) as u32
+    entry_of(key::film(key), key::amount(key) - over)
 }
 
-// Stores the films of the window, zeros behind them.
-pub(crate) fn store_films(films: &mut [u32], keys: &[u64], start: usize, size: usize, slots: usize)
-    requires { ⌜ (start + size ≤ length (now keys)) × (size ≤ slots) × (slots ≤ length (now films)) ⌝ }
-    ensures { λ _. ⌜ now (films .exit) ≡ written (padded slots (map filmOf (runOf (now (keys .entry)) start size))) (now (films .entry)) ⌝ }
-{
-    let mut place = 0;
-    while place < slots {
-        films[place] = film_at(keys, start, size, place);
-        place += 1;
-    }
-}
-
-// Stores the viewers of the window's films, `over` less for the last one, zeros behind them.
-pub(crate) fn store_viewers(
-    viewers: &mut [u32],
+// Stores the entries of a run, `over` less for its last one, and zeros behind them up to `places`.
+pub(crate) fn store_entries(
+    table: &mut [u64],
     keys: &[u64],
     start: usize,
     size: usize,
-    over: u64,
-    slots: usize,
+    over: u32,
+    places: usize,
 )
-    requires { ⌜ (start + size ≤ length (now keys)) × (size ≤ slots) × (slots ≤ length (now viewers)) ⌝ }
-    requires { ⌜ total (lessLast over (runOf (now keys) start size)) + over ≡ total (runOf (now keys) start size) ⌝ }
-    requires { ⌜ total (lessLast over (runOf (now keys) start size)) ≤ 65535 ⌝ }
-    ensures { λ _. ⌜ now (viewers .exit)
-        ≡ written (padded slots (map amountOf (lessLast over (runOf (now (keys .entry)) start size)))) (now (viewers .entry)) ⌝ }
+    requires { ⌜ (start + size ≤ length (now keys)) × (size ≤ places) × (places ≤ length (now table)) ⌝ }
+    requires { ⌜ over ≤ lastFilm (runOf (now keys) start size) .amount ⌝ }
+    ensures { λ _. ⌜ now (table .exit)
+        ≡ written (padded places (map entryOf (lessLast over (runOf (now (keys .entry)) start size)))) (now (table .entry)) ⌝ }
 {
     let mut place = 0;
-    while place < slots {
-        viewers[place] = viewers_at(keys, start, size, over, place);
+    while place < places {
+        table[place] = entry_at(keys, start, size, over, place);
         place += 1;
     }
 }

@@ -4,8 +4,9 @@ ghost use mathlib.Core.Path.{_≡_};
 ghost use Prim.Native.Nat.{_≤_, _<_, min};
 ghost use lib.ListN.{length, take};
 ghost use Rattle.placement.specs.Items.{total};
-ghost use Rattle.placement.specs.Rack.{disk};
+ghost use Rattle.placement.specs.Rack.{disk, mostDemand};
 ghost use Rattle.placement.specs.Window.{window, within, slidings, lastWindow, firstReaching, windowOf};
+ghost use Rattle.placement.specs.WellFormed.{Each, Entry};
 ghost use Rattle.planner.specs.Keys.{itemsOf};
 ghost use Rattle.planner.specs.Search.{Opened};
 
@@ -34,14 +35,14 @@ fn smaller(a: usize, b: usize) -> usize
 
 // The first opening films that reach the load, or the most that a disk takes.
 fn opening(keys: &[u64], n: usize, slots: usize, load: u64) -> Prefix
-    requires { ⌜ (n ≤ length (now keys)) × (1 ≤ load) × (load ≤ 65535) ⌝ }
-    ensures { λ r. ⌜ Opened slots load (itemsOf (now (keys .entry)) n) (r .count) (r .sum) ⌝ }
+    requires { ⌜ (n ≤ length (now keys)) × (1 ≤ load) × (load ≤ 65535) × Each (Entry mostDemand) (itemsOf n (now keys)) ⌝ }
+    ensures { λ r. ⌜ Opened slots load (itemsOf n (now (keys .entry))) (r .count) (r .sum) ⌝ }
 {
     let most = smaller(slots, n);
     let mut count = 0;
     let mut sum = 0;
     while count < most {
-        sum += key::amount(keys[count]);
+        sum += key::summand(keys[count]);
         count += 1;
         if load <= sum {
             return Prefix { count, sum };
@@ -53,15 +54,15 @@ fn opening(keys: &[u64], n: usize, slots: usize, load: u64) -> Prefix
 // The first window of `slots` films from the second film on that reaches the load, or the last window. `first` is the sum
 // of the window at the list's start, and the sum goes along: a turn takes the first film out and the next one in.
 fn slide(keys: &[u64], n: usize, slots: usize, load: u64, first: u64) -> Found
-    requires { ⌜ (n ≤ length (now keys)) × (1 ≤ slots) × (load ≤ 65535) ⌝ }
-    requires { ⌜ (first ≡ total (take slots (itemsOf (now keys) n))) × (first < load) ⌝ }
-    ensures { λ r. ⌜ window (r .start) (r .size) ≡ firstReaching load (itemsOf (now (keys .entry)) n) (slidings slots n) (lastWindow slots n) ⌝ }
-    ensures { λ r. ⌜ r .sum ≡ total (within (window (r .start) (r .size)) (itemsOf (now (keys .entry)) n)) ⌝ }
+    requires { ⌜ (n ≤ length (now keys)) × (1 ≤ slots) × (load ≤ 65535) × Each (Entry mostDemand) (itemsOf n (now keys)) ⌝ }
+    requires { ⌜ (first ≡ total (take slots (itemsOf n (now keys)))) × (first < load) ⌝ }
+    ensures { λ r. ⌜ window (r .start) (r .size) ≡ firstReaching load (itemsOf n (now (keys .entry))) (slidings slots n) (lastWindow slots n) ⌝ }
+    ensures { λ r. ⌜ r .sum ≡ total (within (window (r .start) (r .size)) (itemsOf n (now (keys .entry)))) ⌝ }
 {
     let mut start = 0;
     let mut sum = first;
     while slots < n - start {
-        sum = sum - key::amount(keys[start]) + key::amount(keys[start + slots]);
+        sum = sum - key::summand(keys[start]) + key::summand(keys[start + slots]);
         start += 1;
         if load <= sum {
             return Found {
@@ -81,9 +82,9 @@ fn slide(keys: &[u64], n: usize, slots: usize, load: u64, first: u64) -> Found
 // The window of a disk, of the first `n` keys.
 pub(crate) fn find_window(keys: &[u64], n: usize, slots: usize, load: u64) -> Found
     requires { ⌜ (n ≤ length (now keys)) × (1 ≤ slots) ⌝ }
-    requires { ⌜ (1 ≤ load) × (load ≤ 65535) ⌝ }
-    ensures { λ r. ⌜ window (r .start) (r .size) ≡ windowOf (disk slots load) (itemsOf (now (keys .entry)) n) ⌝ }
-    ensures { λ r. ⌜ r .sum ≡ total (within (window (r .start) (r .size)) (itemsOf (now (keys .entry)) n)) ⌝ }
+    requires { ⌜ (1 ≤ load) × (load ≤ 65535) × Each (Entry mostDemand) (itemsOf n (now keys)) ⌝ }
+    ensures { λ r. ⌜ window (r .start) (r .size) ≡ windowOf (disk slots load) (itemsOf n (now (keys .entry))) ⌝ }
+    ensures { λ r. ⌜ r .sum ≡ total (within (window (r .start) (r .size)) (itemsOf n (now (keys .entry)))) ⌝ }
 {
     let first = opening(keys, n, slots, load);
     if load <= first.sum {

@@ -1,93 +1,78 @@
 -- `planner::fill::fill_one` meets its contract by what is known of the disk's window.
 use native.Mathlib.Omega.{arith}
 use borrow.Author.Needs.{needs}
-use Rattle.planner.proofs.Filling.{Filling, filling, films-stored, viewers-stored, window-taken}
+use Rattle.placement.specs.Rack.{Disk, disk}
+use Rattle.planner.proofs.Filling.{Filling, filling, copies-stored, window-taken}
 use Rattle.planner.proofs.fill.fill_one.Statement.{statement}
 use Rattle.planner.proofs.fill.fill_one.Tie as tie
 
--- The window as it is known once `over` is worked out.
+-- The start and the disk, as they are seen once `over` is worked out.
+abbrev start : tie.After-excess → tie.Start
+start c = c .before .before .before .before .before .before .before
+
+abbrev filled : tie.After-excess → Disk
+filled c = disk (start c .args .slots .0) (start c .args .streams .0)
+
+-- The window as it is known then.
 known :
     (c : tie.After-excess)
-    → Filling (c .before .before .before .before .before .before .args .keys .now) (c .before .before .before .before .before .before .args .n)
-    (c .before .before .before .before .before .before .args .slots) (c .before .before .before .before .before .before .args .load)
-    (c .before .find-window .result .start) (c .before .find-window .result .size) (c .before .find-window .result .sum)
-    (c .excess .result)
+    → Filling (filled c) (start c .args .keys .now) (start c .args .n) (c .before .find-window .result .start) (c .before .find-window .result .size)
+    (c .before .find-window .result .sum) (c .excess .result)
 known c =
-    let at-start = c .before .before .before .before .before .before in
-    filling (at-start .args .keys .now) (at-start .args .n) (at-start .args .slots) (at-start .args .load) (c .before .find-window .result .start)
-    (c .before .find-window .result .size) (c .before .find-window .result .sum) (c .excess .result) (at-start .pre .0 .2)
-    (at-start .pre .1 .0) (at-start .pre .1 .2) (c .before .find-window .ensures .0) (c .before .find-window .ensures .1) (c .excess .ensures)
+    let p = start c .pre in
+    let found = c .before .find-window in
+    filling (filled c) (start c .args .keys .now) (start c .args .n) (found .result .start) (found .result .size) (found .result .sum)
+    (c .excess .result) (p .0 .1) (p .1 .0) (p .1 .1) (found .ensures .0) (found .ensures .1) (c .excess .ensures)
 
-find-window-requires : tie.Need-find-window-requires
-find-window-requires c κs = search needs
+cast-over : tie.Need-cast-over
+cast-over c = omega (arith, known c .most (start c .pre .1 .3))
 
-excess-requires : tie.Need-excess-requires
-excess-requires c κs = search needs
-
-store-films-requires : tie.Need-store-films-requires
-store-films-requires c κs =
+store-entries-requires : tie.Need-store-entries-requires
+store-entries-requires c κs =
     let at-excess = c .before .before in
-    let at-start = at-excess .before .before .before .before .before .before in
     let k = known at-excess in
-    (omega (arith, k .inside), k .small, at-start .pre .0 .0)
-
-store-viewers-requires : tie.Need-store-viewers-requires
-store-viewers-requires c κs =
-    let at-excess = c .before .before .before .before .before .before .before in
-    let at-start = at-excess .before .before .before .before .before .before in
-    let k = known at-excess in
-    ((omega (arith, k .inside), k .small, at-start .pre .0 .1), (k .whole, omega (arith, k .light)))
+    ((omega (arith, k .inside), k .small, start at-excess .pre .0 .0), k .rest)
 
 take-window-requires : tie.Need-take-window-requires
 take-window-requires c κs =
-    let at-excess = c .before .before .before .before .before .before .before .before .before .before .before in
-    let at-start = at-excess .before .before .before .before .before .before in
+    let at-excess = c .before .before .before .before .before .before in
     let k = known at-excess in
-    ((k .inside, at-start .pre .0 .2), k .rest)
+    ((k .inside, start at-excess .pre .0 .1), k .rest)
 
-cast-t26 : tie.Need-cast-t26
-cast-t26 c =
-    let at-excess = c .before .before .before .before .before .before .before .before .before .before .before .before .before .before in
-    omega (arith, known at-excess .small)
+-- The step's result is made once the window is taken.
+abbrev excess-of : tie.After-take-window → tie.After-excess
+excess-of c = c .before .before .before .before .before .before .before
 
-sub-t27 : tie.Need-sub-t27
-sub-t27 c = search needs
+cast-t24 : tie.Need-cast-t24
+cast-t24 c = omega (arith, known (excess-of (c .before .before)) .small)
 
-same-length : tie.Need-same-length
-same-length c = search needs
-
-same-length-2 : tie.Need-same-length-2
-same-length-2 c = search needs
-
-same-length-3 : tie.Need-same-length-3
-same-length-3 c = search needs
+sub-t25 : tie.Need-sub-t25
+sub-t25 c = omega (arith, excess-of (c .before .before) .excess .ensures)
 
 returns : tie.Need-returns
 returns c =
-    let at-viewers = c .before .before .before .before .before .before in
-    let at-films = at-viewers .before .before .before .before .before in
-    let at-excess = at-films .before .before .before in
-    let at-start = at-excess .before .before .before .before .before .before in
+    let at-take = c .before .before in
+    let at-store = at-take .before .before .before .before in
+    let at-excess = excess-of at-take in
     let k = known at-excess in (
-      films-stored k (at-start .args .films .now) (at-films .store-films .ensures),
-      (
-        viewers-stored k (at-start .args .viewers .now) (at-viewers .store-viewers .ensures),
-        (window-taken k (c .before .before .take-window .ensures .0), ((k .count, k .serves), c .before .before .take-window .ensures .1)),
-      ),
+      copies-stored k (start at-excess .args .copies .now) (at-store .store-entries .ensures),
+      ((window-taken k (at-take .take-window .ensures .0), at-take .take-window .ensures .1), (k .count, k .serves)),
     )
 
 pub fill-one-spec : {M : Type 1} → statement M
 fill-one-spec =
     tie.close
     (tie.spec
-    find-window-requires
-    excess-requires
-    store-films-requires
-    store-viewers-requires
+    (λ c. search needs)
+    (λ c. search needs)
+    (λ c κs. search needs)
+    (λ c κs. search needs)
+    cast-over
+    store-entries-requires
     take-window-requires
-    cast-t26
-    sub-t27
-    same-length
-    same-length-2
-    same-length-3
+    cast-t24
+    (λ c. search needs)
+    sub-t25
+    (λ c. search needs)
+    (λ c. search needs)
     returns)

@@ -2,92 +2,90 @@
 use borrow.Author.Needs.{needs}
 use native.Mathlib.Omega.{arith}
 use mathlib.Core.Path.{sym}
-use Prim.Native.Nat.{ℕ, _≤_}
+use Prim.Native.Nat.{_≤_}
+use lib.ListN.{length}
+use Rattle.placement.specs.Rack.{disksOf, mostRecords}
+use Rattle.placement.specs.Records.{recordCount}
 use Rattle.placement.specs.Tables.{tables}
-use Rattle.placement.specs.Planning.{Call, recordCount}
-use Rattle.placement.specs.WellFormed.{CallWellFormed}
-use Rattle.planner.specs.Verdicts.{callOf}
-use Rattle.planner.proofs.Places.{length-itemsOf}
-use Rattle.planner.proofs.Fulfilled.{left-small, steps-tables, steps-numbers}
+use Rattle.placement.specs.Planning.{Call, call}
+use Rattle.placement.proofs.ReadBack.{front-length}
+use Rattle.planner.proofs.Fulfilled.{first-entries, left-small, left-distinct, steps-tables, steps-numbers}
 use Rattle.planner.proofs.fulfil.fill_with.Statement.{statement}
 use Rattle.planner.proofs.fulfil.fill_with.Tie as tie
 
--- No more films are left than there are records.
-left-few :
-    (c : Call) {n left : ℕ} → CallWellFormed c → n ≤ recordCount c → left ≤ n → (left ≤ recordCount c) × (recordCount c ≤ 1024)
-left-few c formed h l = (omega (arith, h, l), formed .inRange .recordsMost)
+-- The start and the call, as they are seen once the list is built.
+abbrev start : tie.After-build → tie.Start
+start c = c .before .before .before .before .before .before .before
+
+abbrev called : tie.After-build → Call
+called c = call (disksOf (start c .args .rack)) (start c .args .list .now)
+
+-- The built list, as it is seen once the disks are filled.
+abbrev built : tie.After-fill-all → tie.After-build
+built c = c .before .before .before .before .before .before
+
+-- The filled disks, as they are seen where what is left is stored.
+abbrev filled : tie.After-store-left-arg2 → tie.After-fill-all
+filled c = c .before .before .before .before .before .before .before .before
 
 build-requires : tie.Need-build-requires
 build-requires c κs =
-    let start = c .before .before .before .before .before .before .before .before in
-    let p = start .pre .0 in
-    (omega (arith, p .formed .inRange .recordsMost, start .pre .1), p .formed .accepted .demanded)
-
-cast-disks : tie.Need-cast-disks
-cast-disks c = search needs
-
-cast-slots : tie.Need-cast-slots
-cast-slots c = search needs
-
-cast-load : tie.Need-cast-load
-cast-load c = search needs
+    let at-start = c .before .before .before .before .before .before in
+    let formed = at-start .pre .0 .formed in
+    (omega (arith, formed .recordsMost, at-start .pre .1), formed .accepted .demanded)
 
 fill-all-requires : tie.Need-fill-all-requires
 fill-all-requires c κs =
-    let start = c .before .before .before .before .before .before .before .before .before .before .before .before .before .before .before .before .before .before in
-    let p = start .pre .0 in
-    let r = p .formed .inRange in
-    ((p .films, p .viewers, p .counts, omega (arith, r .recordsMost, start .pre .1, c .before .before .before .before .before .before .before .before .before .build .ensures .1)), (r .disksMost, r .slotsLeast, r .slotsMost, r .streamsLeast, r .streamsMost))
+    let at-build = c .before .before .before .before .before in
+    let at-start = start at-build in
+    let p = at-start .pre .0 in (
+      (p .copies, p .counts, omega (arith, at-build .build .ensures .1, p .formed .recordsMost, at-start .pre .1)),
+      (p .formed .rack, first-entries (called at-build) (p .formed) (at-build .build .ensures .0)),
+    )
+
+-- No more films are left than there are records, and the working list has a place for each.
+few :
+    (c : tie.After-fill-all)
+    → (c .fill-all .result .left ≤ recordCount (start (built c) .args .list .now)) × (recordCount (start (built c) .args .list .now) ≤ mostRecords)
+    × (c .fill-all .result .left ≤ length (c .fill-all .last .1 .1 .0))
+few c =
+    let at-start = start (built c) in
+    let left : c .fill-all .result .left ≤ recordCount (at-start .args .list .now) =
+    omega (arith, c .fill-all .ensures .1 .1 .0 .1, built c .build .ensures .1) in
+    (left, at-start .pre .0 .formed .recordsMost, omega (arith, at-start .pre .0 .formed .recordsMost, at-start .pre .1))
 
 store-left-requires : tie.Need-store-left-requires
 store-left-requires c κs =
-    let start = c .before .before .before .before .before .before .before .before .before .before .before .before .before .before .before .before .before .before .before .before .before .before .before .before .before .before .before .before .before .before in
-    let p = start .pre .0 in
-    let called = callOf (start .args .rack .disks) (start .args .rack .slots .0) (start .args .rack .streams .0) (start .args .list .now) in
-    let built = c .before .before .before .before .before .before .before .before .before .before .before .before .before .before .before .before .before .before .before .before .before .build in
-    let filled = c .before .before .before .before .before .before .before .before .before .before .before .fill-all in
-    let few = left-few _ (p .formed) (built .ensures .1) (filled .ensures .1 .1 .1 .0 .1) in (
-      (omega (arith, few .1, start .pre .1), left-small called (built .ensures .0) (filled .ensures .1 .1 .1 .0 .0) (p .formed)),
-      (few, (p .leftFilms, p .leftAmounts)),
+    let at-fill = filled c in
+    let at-build = built at-fill in
+    let p = start at-build .pre .0 in
+    let remains = at-fill .fill-all .ensures .1 .1 .0 .0 in (
+      (
+        few at-fill .2,
+        left-small (called at-build) (p .formed) (at-build .build .ensures .0) remains,
+        left-distinct (called at-build) (p .formed) (at-build .build .ensures .0) remains,
+      ),
+      (few at-fill .0, few at-fill .1, p .left),
     )
 
-cast-t34 : tie.Need-cast-t34
-cast-t34 c =
-    let p = c .before .before .before .before .before .before .before .before .before .before .before .before .before .before .before .before .before .before .before .before .before .before .before .before .before .before .before .before .before .before .before .before .before .before .before .pre .0 in
-    let few = left-few _ (p .formed) (c .before .before .before .before .before .before .before .before .before .before .before .before .before .before .before .before .before .before .before .before .before .before .before .before .before .before .build .ensures .1) (c .before .before .before .before .before .before .before .before .before .before .before .before .before .before .before .before .fill-all .ensures .1 .1 .1 .0 .1) in
-    omega (arith, few .0, few .1)
-
-same-length : tie.Need-same-length
-same-length c = search needs
-
-same-length-2 : tie.Need-same-length-2
-same-length-2 c = search needs
-
-same-length-3 : tie.Need-same-length-3
-same-length-3 c = search needs
-
-same-length-4 : tie.Need-same-length-4
-same-length-4 c = search needs
-
-same-length-5 : tie.Need-same-length-5
-same-length-5 c = search needs
-
-same-length-6 : tie.Need-same-length-6
-same-length-6 c = search needs
+cast-t25 : tie.Need-cast-t25
+cast-t25 c =
+    let some = few (filled (c .before .before .before)) in
+    omega (arith, some .0, some .1)
 
 returns : tie.Need-returns
 returns c =
-    let start = c .before .before .before .before .before .before .before .before .before .before .before .before .before .before .before .before .before .before .before .before .before .before .before .before .before .before .before .before .before .before .before .before .before .before .before in
-    let called = callOf (start .args .rack .disks) (start .args .rack .slots .0) (start .args .rack .streams .0) (start .args .list .now) in
-    let built = c .before .before .before .before .before .before .before .before .before .before .before .before .before .before .before .before .before .before .before .before .before .before .before .before .before .before .build in
-    let filled = c .before .before .before .before .before .before .before .before .before .before .before .before .before .before .before .before .fill-all in
-    let stored = c .before .before .before .before .store-left in
-    let few = left-few _ (start .pre .0 .formed) (built .ensures .1) (filled .ensures .1 .1 .1 .0 .1) in (
-      steps-numbers called (built .ensures .0) (filled .ensures .1 .1 .1 .0 .0) (filled .ensures .1 .1 .1 .1) (stored .ensures .1 .1)
-          (sym (length-itemsOf _ _ (omega (arith, few .1, start .pre .1)))),
-      steps-tables called (built .ensures .0) (filled .ensures .1 .1 .1 .0 .0) _
-          (tables (start .args .films .now) (start .args .viewers .now) (start .args .counts .now) (start .args .leftfilms .now) (start .args .leftamounts .now)) (filled .ensures .0) (filled .ensures .1 .0) (filled .ensures .1 .1 .0)
-          (stored .ensures .0) (stored .ensures .1 .0),
+    let at-store = c .before .before in
+    let at-fill = filled (at-store .before) in
+    let at-build = built at-fill in
+    let at-start = start at-build in
+    let told = at-fill .fill-all .ensures in
+    let formed = at-start .pre .0 .formed in (
+      steps-numbers (called at-build) formed (at-build .build .ensures .0) (told .1 .1 .0 .0) (told .1 .1 .1) (at-store .store-left .ensures .1)
+          (sym (front-length (at-fill .fill-all .result .left) _ (few at-fill .2))),
+      steps-tables (called at-build) formed (at-build .build .ensures .0) (told .1 .1 .0 .0) _
+          (tables (at-start .args .copies .now) (at-start .args .counts .now) (at-start .args .left .now)) (told .0) (told .1 .0)
+          (at-store .store-left .ensures .0),
     )
 
 pub fill-with-spec : {M : Type 1} → statement M
@@ -95,16 +93,11 @@ fill-with-spec =
     tie.close
     (tie.spec
     build-requires
-    cast-disks
-    cast-slots
-    cast-load
     fill-all-requires
     store-left-requires
-    cast-t34
-    same-length
-    same-length-2
-    same-length-3
-    same-length-4
-    same-length-5
-    same-length-6
+    cast-t25
+    (λ c. search needs)
+    (λ c. search needs)
+    (λ c. search needs)
+    (λ c. search needs)
     returns)

@@ -1,23 +1,21 @@
 -- `planner::judge::judge` meets its contract: the tests that led to each `return` give the verdict.
 use borrow.Author.Needs.{needs}
-use mathlib.Core.Path.{_≡_, sym, _∙_}
-use mathlib.Core.Bool.{Bool, true, false, not, _&&_}
-use Prim.Native.Nat.{ℕ, _≤_, _%_, _/_}
-use borrow.Author.Tests.{not-true, not-false, eq-eqb, ne-eqb, le-leb, lt-leb}
+use mathlib.Core.Path.{_≡_, sym, ap, ap₂, _∙_}
+use mathlib.Core.Bool.{Bool, true, false, not}
+use mathlib.Core.List.{List}
+use Prim.Native.Nat.{ℕ}
+use borrow.Author.Tests.{not-true, not-false}
 use lib.ListN.{length}
-use Rattle.placement.specs.Rack.{rackAccepted, inRange, mostDisks, mostSlots, mostLoad}
-use Rattle.placement.proofs.Verdicts.{both-true, inRange-bounds}
-use Rattle.planner.specs.Verdicts.{callOf}
-use Rattle.planner.proofs.Refusals.{rack-refused, length-refused, count-refused, room-refused, records-decide}
+use Rattle.refusal.specs.Verdict.{Verdict, given, refused}
+use Rattle.refusal.proofs.Verdicts.{andThen, unless-passes, unless-refuses}
+use Rattle.refusal.proofs.Judgements.{passes, refuses}
+use Rattle.placement.specs.Rack.{Disk, disksOf, rackAccepted}
+use Rattle.placement.specs.Records.{recordCount, shapeJudged, recordsJudged, listJudged}
+use Rattle.placement.specs.Tables.{Tables, roomIn, roomFor}
+use Rattle.placement.specs.Planning.{call, roomJudged, verdict}
+use Rattle.placement.proofs.Chains.{shape-then}
 use Rattle.planner.proofs.judge.judge.Statement.{statement}
 use Rattle.planner.proofs.judge.judge.Tie as tie
-
--- what an accepted rack says of disks and slots
-rack-most : (disks slots streams : ℕ) → rackAccepted disks slots streams ≡ true → (disks ≤ mostDisks) × (slots ≤ mostSlots)
-rack-most disks slots streams e =
-    let first = both-true (inRange mostDisks disks) (inRange mostSlots slots && inRange mostLoad streams) e in
-    let second = both-true (inRange mostSlots slots) (inRange mostLoad streams) (first .1) in
-    (inRange-bounds mostDisks disks (first .0) .1, inRange-bounds mostSlots slots (second .0) .1)
 
 -- what a call's answer says of the test that it stands for
 told-false : {answer test : Bool} → answer ≡ test → not answer ≡ true → test ≡ false
@@ -26,66 +24,96 @@ told-false {answer} told taken = sym told ∙ not-true answer taken
 told-true : {answer test : Bool} → answer ≡ test → not answer ≡ false → test ≡ true
 told-true {answer} told passed = sym told ∙ not-false answer passed
 
-accepted-requires : tie.Need-accepted-requires
-accepted-requires c κs = search needs
+-- tables of these lengths have the room of these lengths
+room-by :
+    (rack : List Disk) (n : ℕ) (t : Tables) {copies counts left : ℕ} → length (t .copies) ≡ copies → length (t .counts) ≡ counts
+    → length (t .left) ≡ left → roomFor rack n t ≡ roomIn rack n copies counts left
+room-by rack n t {copies} {counts} p q r =
+    ap₂ (λ (a b : ℕ). roomIn rack n a b (length (t .left))) p q ∙ ap (roomIn rack n copies counts) r
+
+module _ (rack : List Disk) (list : List ℕ) (t : Tables) where
+  -- what comes behind the records, and behind the room
+  abbrev fromRecords : Verdict (Unit {0})
+  fromRecords = recordsJudged list (given tt)
+
+  abbrev fromRoom : Verdict (Unit {0})
+  fromRoom = roomJudged rack (recordCount list) t fromRecords
+
+  rack-refused : rackAccepted rack ≡ false → refused 1 0 ≡ verdict (call rack list) t
+  rack-refused e = sym (unless-refuses (rackAccepted rack) 1 0 (shapeJudged list fromRoom) e)
+
+  module _ (accepted : rackAccepted rack ≡ true) where
+    shape-decides : shapeJudged list fromRoom ≡ verdict (call rack list) t
+    shape-decides = sym (unless-passes (rackAccepted rack) 1 0 (shapeJudged list fromRoom) accepted)
+
+    shape-refused : (v : Verdict (Unit {0})) → v ≡ andThen v fromRoom → v ≡ shapeJudged list (given tt) → v ≡ verdict (call rack list) t
+    shape-refused v settles e =
+        settles ∙ ap (λ (w : Verdict (Unit {0})). andThen w fromRoom) e ∙ sym (shape-then list fromRoom) ∙ shape-decides
+
+    room-refused :
+        shapeJudged {A = Unit {0}} list (given tt) ≡ given tt → roomFor rack (recordCount list) t ≡ false → refused 7 0 ≡ verdict (call rack list) t
+    room-refused passed e =
+        sym
+        (ap (shapeJudged list) (unless-refuses (roomFor rack (recordCount list) t) 7 0 fromRecords e)
+        ∙ shape-then list (refused 7 0)
+        ∙ ap (λ (w : Verdict (Unit {0})). andThen w (refused 7 0)) passed)
+        ∙ shape-decides
+
+    list-decides : roomFor rack (recordCount list) t ≡ true → listJudged list (given tt) ≡ verdict (call rack list) t
+    list-decides e = sym (ap (shapeJudged list) (unless-passes (roomFor rack (recordCount list) t) 7 0 fromRecords e)) ∙ shape-decides
 
 returns : tie.Need-returns
-returns c =
+returns c = λ t copies counts left.
     let a = c .before .before .before .args in
-    sym (rack-refused (callOf (a .rack .disks) (a .rack .slots .0) (a .rack .streams .0) (a .list .now)) (a .films) (a .viewers) (a .counts) (a .leftfilms) (a .leftamounts)
-    (told-false (c .before .accepted .ensures) (c .if1 .taken)))
+    rack-refused (disksOf (a .rack)) (a .list .now) t (told-false (c .before .accepted .ensures) (c .if1 .taken))
+
+-- the rack is accepted where the shape is judged
+accepted-rack : (c : tie.After-judge-shape) → rackAccepted (disksOf (c .before .before .before .before .args .rack)) ≡ true
+accepted-rack c = told-true (c .before .before .accepted .ensures) (c .before .if1 .left)
 
 returns-2 : tie.Need-returns-2
-returns-2 c =
+returns-2 c = λ t copies counts left.
+    let at-shape = c .before .before in
+    let a = at-shape .before .before .before .before .args in
+    shape-refused (disksOf (a .rack)) (a .list .now) t (accepted-rack at-shape) _
+    (refuses (at-shape .judge-shape .result) (fromRoom (disksOf (a .rack)) (a .list .now) t) (c .before .match .keys2))
+    (at-shape .judge-shape .ensures)
+
+-- the room that is asked for
+abbrev room-asked : tie.After-judge-shape → Bool
+room-asked c =
     let a = c .before .before .before .before .args in
-    sym (length-refused (callOf (a .rack .disks) (a .rack .slots .0) (a .rack .streams .0) (a .list .now)) (a .films) (a .viewers) (a .counts) (a .leftfilms) (a .leftamounts)
-    (told-true (c .before .before .accepted .ensures) (c .before .if1 .left))
-    (ne-eqb (length (a .list .now) % 8) 0 (c .if2 .taken)))
+    roomIn (disksOf (a .rack)) (recordCount (a .list .now)) (a .copies) (a .counts) (a .left)
 
 returns-3 : tie.Need-returns-3
-returns-3 c =
-    let a = c .before .before .before .before .before .args in
-    sym (count-refused (callOf (a .rack .disks) (a .rack .slots .0) (a .rack .streams .0) (a .list .now)) (a .films) (a .viewers) (a .counts) (a .leftfilms) (a .leftamounts)
-    (told-true (c .before .before .before .accepted .ensures) (c .before .before .if1 .left))
-    (eq-eqb (length (a .list .now) % 8) 0 (c .before .if2 .left))
-    (lt-leb (length (a .list .now) / 8) 1024 (c .if3 .taken)))
-
-room-requires : tie.Need-room-requires
-room-requires c κs =
-    let a = c .before .before .before .before .before .args in
-    rack-most (a .rack .disks) (a .rack .slots .0) (a .rack .streams .0)
-    (told-true (c .before .before .before .accepted .ensures) (c .before .before .if1 .left))
+returns-3 c = λ t copies counts left.
+    let at-match = c .before .before .before in
+    let at-shape = at-match .before in
+    let a = at-shape .before .before .before .before .args in
+    room-refused (disksOf (a .rack)) (a .list .now) t (accepted-rack at-shape)
+    (sym (at-shape .judge-shape .ensures) ∙ passes (at-shape .judge-shape .result) (at-match .match .keys1))
+    (room-by (disksOf (a .rack)) (recordCount (a .list .now)) t copies counts left ∙ told-false {test = room-asked at-shape} (c .before .room .ensures) (c .if2 .taken))
 
 returns-4 : tie.Need-returns-4
-returns-4 c =
-    let a = c .before .before .before .before .before .before .before .args in
-    sym (room-refused (callOf (a .rack .disks) (a .rack .slots .0) (a .rack .streams .0) (a .list .now)) (a .films) (a .viewers) (a .counts) (a .leftfilms) (a .leftamounts)
-    (told-true (c .before .before .before .before .before .accepted .ensures) (c .before .before .before .before .if1 .left))
-    (eq-eqb (length (a .list .now) % 8) 0 (c .before .before .before .if2 .left))
-    (le-leb (length (a .list .now) / 8) 1024 (c .before .before .if3 .left))
-    (told-false (c .before .room .ensures) (c .if4 .taken)))
-
-check-list-requires : tie.Need-check-list-requires
-check-list-requires c κs = search needs
-
-returns-5 : tie.Need-returns-5
-returns-5 c =
-    let a = c .before .before .before .before .before .before .before .before .args in
-    c .check-list .ensures ∙ sym (records-decide (callOf (a .rack .disks) (a .rack .slots .0) (a .rack .streams .0) (a .list .now)) (a .films) (a .viewers) (a .counts) (a .leftfilms) (a .leftamounts)
-    (told-true (c .before .before .before .before .before .before .accepted .ensures) (c .before .before .before .before .before .if1 .left))
-    (eq-eqb (length (a .list .now) % 8) 0 (c .before .before .before .before .if2 .left))
-    (le-leb (length (a .list .now) / 8) 1024 (c .before .before .before .if3 .left))
-    (told-true (c .before .before .room .ensures) (c .before .if4 .left)))
+returns-4 c = λ t copies counts left.
+    let at-room = c .before .before in
+    let at-shape = at-room .before .before .before in
+    let a = at-shape .before .before .before .before .args in
+    c .judge-list .ensures
+    ∙ list-decides (disksOf (a .rack)) (a .list .now) t (accepted-rack at-shape)
+    (room-by (disksOf (a .rack)) (recordCount (a .list .now)) t copies counts left ∙ told-true {test = room-asked at-shape} (at-room .room .ensures) (c .before .if2 .left))
 
 pub judge-spec : {M : Type 1} → statement M
 judge-spec =
     tie.close
     (tie.spec
-    accepted-requires
+    (λ c κs. search needs)
     returns
+    (λ c κs. search needs)
+    (λ c. search needs)
+    (λ c. search needs)
     returns-2
+    (λ c κs. search needs)
     returns-3
-    room-requires
-    returns-4
-    check-list-requires
-    returns-5)
+    (λ c κs. search needs)
+    returns-4)

@@ -13,9 +13,9 @@ use Rattle.placement.specs.Rack.{disk}
 use Rattle.placement.specs.Window.{Window, window, openings, slidings, lastWindow, firstReaching, windowOf}
 use Rattle.placement.proofs.Search.{firstReaching-append}
 use Rattle.placement.proofs.WindowCases.{take-min}
-use Rattle.planner.specs.Keys.{itemsOf}
 use Rattle.planner.specs.Search.{Opened}
-use Rattle.planner.proofs.Places.{length-itemsOf}
+use Rattle.placement.proofs.ReadBack.{front-length}
+use Rattle.planner.specs.Keys.{itemsOf}
 use Rattle.planner.proofs.window.find_window.Statement.{statement}
 use Rattle.planner.proofs.window.find_window.Tie as tie
 
@@ -47,15 +47,12 @@ module _ (slots load : ℕ) (list : List Item) (count sum : ℕ) (o : Opened slo
   first-sum : sum < load → sum ≡ total (take slots list)
   first-sum h = o .sums ∙ ap (λ (m : ℕ). total (take m list)) (o .longest h) ∙ ap total (take-min slots list)
 
-opening-requires : tie.Need-opening-requires
-opening-requires c κs = search needs
-
 returns : tie.Need-returns
 returns c =
     let at-opening = c .before .before in
     let at-start = at-opening .before .before in
     let opened = at-opening .opening .ensures in (
-      opening-found (at-start .args .slots) (at-start .args .load) (itemsOf (at-start .args .keys .now) (at-start .args .n))
+      opening-found (at-start .args .slots) (at-start .args .load) (itemsOf (at-start .args .n) (at-start .args .keys .now))
           (at-opening .opening .result .count) (at-opening .opening .result .sum) opened (omega arith),
       opened .sums,
     )
@@ -64,21 +61,21 @@ slide-requires : tie.Need-slide-requires
 slide-requires c κs =
     let at-opening = c .before .before in
     let at-start = at-opening .before .before in
-    let first : at-opening .opening .result .sum ≡ total (take (at-start .args .slots) (itemsOf (at-start .args .keys .now) (at-start .args .n))) =
-    first-sum (at-start .args .slots) (at-start .args .load) (itemsOf (at-start .args .keys .now) (at-start .args .n))
+    let first : at-opening .opening .result .sum ≡ total (take (at-start .args .slots) (itemsOf (at-start .args .n) (at-start .args .keys .now))) =
+    first-sum (at-start .args .slots) (at-start .args .load) (itemsOf (at-start .args .n) (at-start .args .keys .now))
     (at-opening .opening .result .count) (at-opening .opening .result .sum) (at-opening .opening .ensures) (omega arith) in
-    ((at-start .pre .0 .0, at-start .pre .0 .1, at-start .pre .1 .1), (first, omega arith))
+    ((at-start .pre .0 .0, at-start .pre .0 .1, at-start .pre .1 .1, at-start .pre .1 .2), (first, omega arith))
 
 returns-2 : tie.Need-returns-2
 returns-2 c =
     let at-opening = c .before .before .before in
     let at-start = at-opening .before .before in (
-      slide-found (at-start .args .slots) (at-start .args .load) (itemsOf (at-start .args .keys .now) (at-start .args .n))
+      slide-found (at-start .args .slots) (at-start .args .load) (itemsOf (at-start .args .n) (at-start .args .keys .now))
           (at-opening .opening .result .count) (at-opening .opening .result .sum) (at-opening .opening .ensures) (at-start .args .n)
           (window (c .slide .result .start) (c .slide .result .size))
-          (length-itemsOf (at-start .args .keys .now) (at-start .args .n) (at-start .pre .0 .0)) (omega arith) (c .slide .ensures .0),
+          (front-length (at-start .args .n) (at-start .args .keys .now) (at-start .pre .0 .0)) (omega arith) (c .slide .ensures .0),
       c .slide .ensures .1,
     )
 
 pub find-window-spec : {M : Type 1} → statement M
-find-window-spec = tie.close (tie.spec opening-requires returns slide-requires returns-2)
+find-window-spec = tie.close (tie.spec (λ c κs. search needs) returns slide-requires returns-2)

@@ -2,6 +2,8 @@
 use Prim.Native.Nat.{_-_}
 use native.Mathlib.Omega.{arith}
 use borrow.Author.Needs.{needs}
+use Rattle.placement.specs.Rack.{mostDemand}
+use Rattle.planner.proofs.Places.{amount-most}
 use Rattle.planner.proofs.Openings.{OpeningsPassed, openings-begin, openings-end, openings-pass, openings-find}
 use Rattle.planner.proofs.window.opening.Statement.{statement}
 use Rattle.planner.proofs.window.opening.Tie as tie
@@ -12,47 +14,35 @@ Inv-loop keys n slots load most count₀ sum₀ count sum = OpeningsPassed keys 
 abbrev μ-loop : tie.MeasureT-loop
 μ-loop keys n slots load most count₀ sum₀ count sum = most - count
 
-smaller-requires : tie.Need-smaller-requires Inv-loop μ-loop
-smaller-requires c κs = search needs
-
 loop-holds : tie.Need-loop-holds Inv-loop μ-loop
 loop-holds c =
     openings-begin (c .before .before .args .keys .now) (c .before .before .args .n) (c .before .before .args .slots)
     (c .before .before .args .load) (c .smaller .result) (c .smaller .ensures) (c .before .before .pre .1)
 
-mul-amount : tie.Need-mul-amount Inv-loop μ-loop
-mul-amount c = search needs
-
-shared-slice-read-amount : tie.Need-shared-slice-read-amount Inv-loop μ-loop
-shared-slice-read-amount c = search needs
-
-amount-requires : tie.Need-amount-requires Inv-loop μ-loop
-amount-requires c κs = search needs
-
 add-sum : tie.Need-add-sum Inv-loop μ-loop
-add-sum c = search needs
-
-add-count : tie.Need-add-count Inv-loop μ-loop
-add-count c = search needs
+add-sum c =
+    let at-loop = c .before .before .before in
+    let at-start = at-loop .before .before .before in
+    omega (
+      arith,
+      c .summand .ensures,
+      amount-most mostDemand (at-start .args .keys .now) (at-start .args .n) (at-loop .loop .count) (omega (arith, at-loop .loop .inv .most-is))
+          (at-start .pre .0) (at-start .pre .3),
+    )
 
 returns : tie.Need-returns Inv-loop μ-loop
 returns c =
-    let at-turn = c .before .before .before in
-    let at-loop = at-turn .before in
+    let at-loop = c .before .before .before .before in
     let at-start = at-loop .before .before .before in
     openings-find (at-start .pre .0) (at-loop .loop .inv)
-    (c .before .amount .ensures .0) (omega arith) (omega arith)
-
-loop-less : tie.Need-loop-less Inv-loop μ-loop
-loop-less c = search needs
+    (c .before .summand .ensures) (omega arith) (omega arith)
 
 loop-again : tie.Need-loop-again Inv-loop μ-loop
 loop-again c =
-    let at-turn = c .before .before .before in
-    let at-loop = at-turn .before in
+    let at-loop = c .before .before .before .before in
     let at-start = at-loop .before .before .before in
     openings-pass (at-start .pre .0) (at-loop .loop .inv)
-    (c .before .amount .ensures .0) (omega arith) (omega arith)
+    (c .before .summand .ensures) (omega arith) (omega arith)
 
 returns-2 : tie.Need-returns-2 Inv-loop μ-loop
 returns-2 c =
@@ -66,14 +56,14 @@ opening-spec =
     (tie.spec
     Inv-loop
     μ-loop
-    smaller-requires
+    (λ c κs. search needs)
     loop-holds
-    mul-amount
-    shared-slice-read-amount
-    amount-requires
+    (λ c. search needs)
+    (λ c. search needs)
+    (λ c κs. search needs)
     add-sum
-    add-count
+    (λ c. search needs)
     returns
-    loop-less
+    (λ c. search needs)
     loop-again
     returns-2)

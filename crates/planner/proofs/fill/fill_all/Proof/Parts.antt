@@ -1,71 +1,83 @@
--- The loop's invariant, and the parts of the copy table that a turn lends on.
+-- The loop's invariant, the rack's numbers, and the room that a turn finds.
 use mathlib.Core.Path.{_≡_}
-use Prim.Native.Nat.{_-_, _*_, _≤_}
+use mathlib.Core.List.{List}
+use Prim.Native.Nat.{_+_, _-_, _*_, _≤_, _<_}
 use native.Mathlib.Omega.{arith}
 use lib.ListN.{length}
+use Rattle.placement.specs.Rack.{Disk, disk, disksOf, mostDemand}
+use Rattle.placement.specs.WellFormed.{Each, Entry}
+use Rattle.placement.proofs.Racks.{rack-length}
+use Rattle.placement.proofs.Offsets.{diskAt, rack-disk}
+use Rattle.placement.proofs.Disks.{copies-load}
 use Rattle.planner.specs.Keys.{itemsOf}
-use Rattle.planner.proofs.FilledTo.{FilledTo}
-use Rattle.planner.proofs.FillRoom.{Room, room}
-use Rattle.planner.proofs.Written.{part-room}
+use Rattle.planner.proofs.RackRanges.{Ranges, ranges}
+use Rattle.planner.proofs.FilledTo.{FilledTo, copies-same, counts-same, first-most, next-room}
 use Rattle.planner.proofs.fill.fill_all.Tie as tie
 
 abbrev pub Inv-loop : tie.InvT-loop
-Inv-loop films₀ viewers₀ counts₀ keys₀ n disks slots load filled₀ left₀ served₀ films viewers counts keys filled left served =
-    (filled ≤ disks) × (left ≤ n) × (length keys ≡ length keys₀) × FilledTo films₀ viewers₀ counts₀ (itemsOf keys₀ n) slots load films viewers counts keys filled left served
+Inv-loop copies₀ counts₀ keys₀ n rack disks filled₀ first₀ left₀ served₀ copies counts keys filled first left served =
+    (filled ≤ rack .disks) × (left ≤ n) × (length keys ≡ length keys₀) × (served ≤ filled * 65535) × Each (Entry mostDemand) (itemsOf left keys)
+    × FilledTo (disksOf rack) (itemsOf n keys₀) copies₀ counts₀ copies counts (itemsOf left keys) filled first served
 
 abbrev pub μ-loop : tie.MeasureT-loop
-μ-loop films₀ viewers₀ counts₀ keys₀ n disks slots load filled₀ left₀ served₀ films viewers counts keys filled left served = disks - filled
+μ-loop copies₀ counts₀ keys₀ n rack disks filled₀ first₀ left₀ served₀ copies counts keys filled first left served = rack .disks - filled
 
--- The tables at the loop's head.
-pub head :
-    (c : tie.At-loop Inv-loop μ-loop)
-    → Room (c .before .before .before .before .before .args .films .now) (c .before .before .before .before .before .args .viewers .now)
-    (c .before .before .before .before .before .args .counts .now) (c .before .before .before .before .before .args .disks)
-    (c .before .before .before .before .before .args .slots) (c .loop .films) (c .loop .viewers) (c .loop .counts) (c .loop .filled)
-    (c .loop .served)
-head c =
-    let at-start = c .before .before .before .before .before in
-    room (at-start .pre .0 .0) (at-start .pre .0 .1) (at-start .pre .0 .2) (at-start .pre .1 .1) (at-start .pre .1 .3) (at-start .pre .1 .4)
-    (c .loop .inv .0) (c .loop .inv .3)
+-- The start, the rack and its disks, as they are seen at the loop's head.
+abbrev pub start : tie.At-loop Inv-loop μ-loop → tie.Start Inv-loop μ-loop
+start c = c .before .before .before .before .before
 
-pub mul-first : tie.Need-mul-first Inv-loop μ-loop
-mul-first c = omega (arith, head (c .before) .films-length, head (c .before) .next (c .loop-test .taken))
+abbrev pub rack : tie.At-loop Inv-loop μ-loop → List Disk
+rack c = disksOf (start c .args .rack)
 
-pub mul-fill-one : tie.Need-mul-fill-one Inv-loop μ-loop
-mul-fill-one c = omega (arith, head (c .before) .films-length, head (c .before) .next (c .loop-test .taken))
+abbrev pub each : tie.At-loop Inv-loop μ-loop → Disk
+each c = disk (start c .args .rack .slots .0) (start c .args .rack .streams .0)
 
-pub sub-fill-one : tie.Need-sub-fill-one Inv-loop μ-loop
-sub-fill-one c = omega (arith, head (c .before) .films-length, head (c .before) .next (c .loop-test .taken))
+pub sizes : (c : tie.Start Inv-loop μ-loop) → Ranges (c .args .rack .disks) (c .args .rack .slots .0) (c .args .rack .streams .0)
+sizes c = ranges (c .args .rack .disks) (c .args .rack .slots .0) (c .args .rack .streams .0) (c .pre .1 .0)
 
-pub part-fill-one-start : tie.Need-part-fill-one-start Inv-loop μ-loop
-part-fill-one-start c = omega (arith, head (c .before) .films-length, head (c .before) .next (c .loop-test .taken))
+pub disks : (c : tie.At-loop Inv-loop μ-loop) → length (rack c) ≡ start c .args .rack .disks
+disks c = rack-length (start c .args .rack .disks) (start c .args .rack .slots .0) (start c .args .rack .streams .0)
 
-pub part-fill-one-end : tie.Need-part-fill-one-end Inv-loop μ-loop
-part-fill-one-end c = omega (arith, head (c .before) .films-length, head (c .before) .next (c .loop-test .taken))
+-- The next disk.
+pub next : (c : tie.In-loop Inv-loop μ-loop) → c .before .loop .filled < length (rack (c .before))
+next c = omega (arith, disks (c .before), c .loop-test .taken)
 
-pub mul-fill-one-2 : tie.Need-mul-fill-one-2 Inv-loop μ-loop
-mul-fill-one-2 c = omega (arith, head (c .before .before) .viewers-length, head (c .before .before) .next (c .before .loop-test .taken))
+pub next-is : (c : tie.In-loop Inv-loop μ-loop) → diskAt (rack (c .before)) (c .before .loop .filled) ≡ each (c .before)
+next-is c =
+    let a = start (c .before) .args in
+    rack-disk (a .rack .disks) (a .rack .slots .0) (a .rack .streams .0) (c .before .loop .filled) (c .loop-test .taken)
 
-pub sub-fill-one-2 : tie.Need-sub-fill-one-2 Inv-loop μ-loop
-sub-fill-one-2 c = omega (arith, head (c .before .before) .viewers-length, head (c .before .before) .next (c .before .loop-test .taken))
+-- The tables keep their lengths, and the next disk's places are in the copy table.
+first-room : (c : tie.At-loop Inv-loop μ-loop) → c .loop .first ≤ length (start c .args .copies .now)
+first-room c = omega (arith, first-most (c .loop .inv .5), start c .pre .0 .0)
 
-pub part-fill-one-start-2 : tie.Need-part-fill-one-start-2 Inv-loop μ-loop
-part-fill-one-start-2 c = omega (arith, head (c .before .before) .viewers-length, head (c .before .before) .next (c .before .loop-test .taken))
+pub copies-kept : (c : tie.At-loop Inv-loop μ-loop) → length (c .loop .copies) ≡ length (start c .args .copies .now)
+copies-kept c = copies-same (c .loop .inv .5) (first-room c)
 
-pub part-fill-one-end-2 : tie.Need-part-fill-one-end-2 Inv-loop μ-loop
-part-fill-one-end-2 c = omega (arith, head (c .before .before) .viewers-length, head (c .before .before) .next (c .before .loop-test .taken))
+pub counts-kept : (c : tie.At-loop Inv-loop μ-loop) → length (c .loop .counts) ≡ length (start c .args .counts .now)
+counts-kept c = counts-same (c .loop .inv .5) (omega (arith, disks c, start c .pre .0 .1))
 
-pub fill-one-requires : tie.Need-fill-one-requires Inv-loop μ-loop
-fill-one-requires c κs =
-    let at-turn = c .before .before .before in
-    let at-loop = at-turn .before in
-    let at-start = at-loop .before .before .before .before .before in (
-      (
-        part-room (at-loop .loop .films) (at-loop .loop .filled * at-start .args .slots) (at-start .args .slots)
-            (omega (arith, head at-loop .films-length, head at-loop .next (at-turn .loop-test .taken))),
-        part-room (at-loop .loop .viewers) (at-loop .loop .filled * at-start .args .slots) (at-start .args .slots)
-            (omega (arith, head at-loop .viewers-length, head at-loop .next (at-turn .loop-test .taken))),
-        omega arith,
-      ),
-      (at-start .pre .1 .1, at-start .pre .1 .2, at-start .pre .1 .3, at-start .pre .1 .4),
+pub room : (c : tie.In-loop Inv-loop μ-loop) → c .before .loop .first + start (c .before) .args .rack .slots .0 ≤ length (c .before .loop .copies)
+room c =
+    omega (
+      arith,
+      next-room (c .before .loop .inv .5) (each (c .before)) (next c) (next-is c),
+      copies-kept (c .before),
+      start (c .before) .pre .0 .0,
+    )
+
+-- The turn, as it is seen once the disk is filled.
+abbrev pub turn : tie.After-fill-one Inv-loop μ-loop → tie.In-loop Inv-loop μ-loop
+turn c = c .before .before .before
+
+-- The disk serves at most its load.
+pub served-most : (c : tie.After-fill-one Inv-loop μ-loop) → c .fill-one .result .served ≤ 65535
+served-most c =
+    let at-loop = turn c .before in
+    let r = sizes (start at-loop) in
+    omega (
+      arith,
+      c .fill-one .ensures .1 .1 .1,
+      copies-load (each at-loop) (itemsOf (at-loop .loop .left) (at-loop .loop .keys)) (r .slotsLeast) (r .loadLeast),
+      r .loadMost,
     )

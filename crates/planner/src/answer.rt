@@ -1,0 +1,12 @@
+// What planning answers.
+use refusal::Refusal;
+
+// A plan's S, U and number of left films, or a refusal. specs/Answers.antt gives document 01's numbers for each case.
+pub enum Answer {
+    Planned {
+        served: u64,
+        unserved: u64,
+        left: u32,
+    },
+    Refused(Refusal),
+}
