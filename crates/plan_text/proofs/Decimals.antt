@@ -7,7 +7,7 @@ use borrow.Author.Tests.{lt-ltb, le-ltb}
 use lib.Dec.{ltb}
 use Rattle.placement.proofs.Tests.{by-order}
 use Rattle.plan_text.specs.Decimal.{digit, decimalWithin, decimal}
-use Rattle.plan_text.proofs.Choices.{cond-true, cond-false}
+use Rattle.placement.proofs.Conjunctions.{cond-true, cond-false}
 
 -- Below 10 one digit is enough, whatever the number of steps.
 within-small : (steps n : ℕ) → n < 10 → decimalWithin steps n ≡ digit n ∷ []

@@ -3,22 +3,22 @@ use mathlib.Core.Path.{_≡_, refl}
 use mathlib.Core.Bool.{true}
 use Prim.Native.Nat.{ℕ}
 use mathlib.Core.List.{List, map}
+use Rattle.refusal.specs.Verdict.{Numbers}
 use Rattle.placement.specs.Tables.{Tables}
+use Rattle.placement.specs.Plan.{wellFormed}
 use Rattle.plan_text.specs.Decimal.{decimal}
-use Rattle.plan_text.specs.Plan.{wellFormed}
 use Rattle.plan_text.specs.Text.{textOf}
 use Rattle.plan_text.specs.Reading.{planRead}
-use Rattle.plan_text.specs.ReadCall.{ReadNumbers, judging}
-use Rattle.plan_text.specs.ReadCall.{reading, tablesAfterReading}
-use Rattle.plan_text.specs.WriteCall.{WriteNumbers, writing, spaceAfter}
+use Rattle.plan_text.specs.ReadCall.{Told, judging, reading, tablesAfterReading}
+use Rattle.plan_text.specs.WriteCall.{writing, spaceAfter}
 use Rattle.plan_text.specs.CallExamples.{Writing, writings, Taking, takings}
-use Rattle.plan_text.specs.Examples.{Example, accepted, refusedAtLine1, refusedAtLine2, refusedLater, caseAText, caseAPlan}
+use Rattle.plan_text.specs.Examples.{Example, accepted, refusedAtLine1, refusedAtLine2, refusedByLength, refusedLater, caseAText, caseAPlan}
 
 -- What the definitions give for an example, and what it expects.
-abbrev judgement : Example → ReadNumbers
+abbrev judgement : Example → Numbers Told
 judgement e = judging (e .text)
 
-abbrev expected : Example → ReadNumbers
+abbrev expected : Example → Numbers Told
 expected e = e .numbers
 
 -- The text of case A is that of its plan, which is well formed.
@@ -41,13 +41,18 @@ pub refusedAtLine2-hold : map judgement refusedAtLine2 ≡ map expected refusedA
 unfolding judging planRead decimal
 refusedAtLine2-hold = refl
 
+-- Those that are refused by their length, or not.
+pub refusedByLength-hold : map judgement refusedByLength ≡ map expected refusedByLength
+unfolding judging planRead decimal
+refusedByLength-hold = refl
+
 -- Those that are refused later.
 pub refusedLater-hold : map judgement refusedLater ≡ map expected refusedLater
 unfolding judging planRead decimal
 refusedLater-hold = refl
 
 -- What the definitions give for a call of writing: the answer and the space afterwards.
-abbrev written : Writing → WriteNumbers × List ℕ
+abbrev written : Writing → Numbers ℕ × List ℕ
 written w = (writing (w .asked) (w .room), spaceAfter (w .asked) (w .room))
 
 -- Every call of writing gives what is expected.
@@ -56,7 +61,7 @@ unfolding writing spaceAfter textOf decimal
 writings-hold = refl
 
 -- What they give for a call of reading: the answer and the tables afterwards.
-abbrev taken : Taking → ReadNumbers × Tables
+abbrev taken : Taking → Numbers Told × Tables
 taken r = (reading (r .text) (r .lent), tablesAfterReading (r .text) (r .lent))
 
 -- Every call of reading gives what is expected.

@@ -7,7 +7,7 @@ use Rattle.plan_text.specs.Text.{lineFeed}
 use Rattle.plan_text.specs.Accepted.{upto}
 use Rattle.plan_text.specs.Parse.{Parse, parsed, unparsed, next, byte}
 use Rattle.plan_text.specs.Reading.{Reading, whole, refusedAfter, line, joined}
-use Rattle.plan_text.proofs.Choices.{cond-true}
+use Rattle.placement.proofs.Conjunctions.{cond-true}
 use Rattle.plan_text.proofs.Pieces.{parsed-value, parsed-rest, next-parsed, chosen-parsed, byte-sound}
 use Rattle.plan_text.proofs.Upto.{oneLine}
 

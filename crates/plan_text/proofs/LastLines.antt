@@ -13,7 +13,7 @@ use Rattle.plan_text.proofs.OneLine.{served-oneLine}
 use Rattle.plan_text.proofs.Bodies.{served-body}
 
 -- Nothing follows the last line.
-pub end-grammar : Grammar (λ b. true) (λ b. []) textEnd
+end-grammar : Grammar (λ b. true) (λ b. []) textEnd
 end-grammar = record {
   complete = λ b ok. refl;
   passes = λ t b e. refl;

@@ -6,7 +6,7 @@ use mathlib.Core.List.{List}
 use Prim.Native.Nat.{ℕ, suc, _≤_}
 use native.Mathlib.Omega.{arith}
 use Rattle.placement.proofs.Tests.{by-order}
-use Rattle.plan_text.specs.Plan.{Plan, wellFormed}
+use Rattle.placement.specs.Plan.{Plan, wellFormed}
 use Rattle.plan_text.specs.Text.{textOf}
 use Rattle.plan_text.specs.Accepted.{Accepted, upto, RefusedAfter, RefusedLine}
 use Rattle.plan_text.specs.Reading.{Reading, whole, refusedAfter, planReadWith, planRead}
@@ -60,10 +60,6 @@ pub read-refused : (t : List ℕ) (n : ℕ) → planRead t ≡ refusedAfter n �
 unfolding planRead
 read-refused t n e = refusedWith none-faithful t n e
 
--- No line is refused in an accepted text.
-pub accepted-refused : (t : List ℕ) (n : ℕ) → Accepted t → RefusedAfter t n → ⊥
-accepted-refused t n a r = r .ended t a refl
-
 -- No refused line comes after another.
 refused-least : (t : List ℕ) (n m : ℕ) → RefusedAfter t n → RefusedAfter t m → m ≤ n
 refused-least t n m r s =
@@ -76,11 +72,11 @@ pub refused-unique : (t : List ℕ) (n m : ℕ) → RefusedAfter t n → Refused
 refused-unique t n m r s = omega (arith, refused-least t n m r s, refused-least t m n s r)
 
 -- A refused line is the one that reading gives.
-pub refused-read : (t : List ℕ) (n : ℕ) → RefusedLine t (suc n) → planRead t ≡ refusedAfter n
+refused-read : (t : List ℕ) (n : ℕ) → RefusedLine t (suc n) → planRead t ≡ refusedAfter n
 refused-read t n r = go (planRead t) refl
   where
     go : (x : Reading Plan) → planRead t ≡ x → x ≡ refusedAfter n
-    go (whole p) e = absurd (accepted-refused t n (read-accepted t p e) r)
+    go (whole p) e = absurd (r .ended t (read-accepted t p e) refl)
     go (refusedAfter m) e = ap (λ (k : ℕ). refusedAfter k) (refused-unique t m n (read-refused t m e) r)
 
 -- Numbers that stop at 2³² − 1 read the same.

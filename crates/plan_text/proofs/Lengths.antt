@@ -1,18 +1,16 @@
 -- How long decimal numbers and lines with pairs are.
 use mathlib.Core.Path.{_≡_, ap, _∙_}
-use mathlib.Core.Bool.{true}
 use mathlib.Core.List.{List, [], _∷_, _++_}
 use Prim.Native.Nat.{ℕ, suc, _+_, _*_, _/_, _%_, _≤_, _<_}
 use native.Mathlib.Omega.{arith}
 use lib.ListN.{length, length-append}
 use Rattle.placement.specs.Items.{Item, total}
+use Rattle.placement.specs.Rack.{mostDemand}
+use Rattle.placement.specs.WellFormed.{Each, Entry}
 use Rattle.placement.proofs.Tests.{by-order}
 use Rattle.plan_text.specs.Decimal.{digit, decimal}
 use Rattle.plan_text.specs.Text.{space, closed, pairText, pairsText}
-use Rattle.plan_text.specs.Plan.{every, copyAccepted, leftFilmAccepted}
-use Rattle.plan_text.proofs.Choices.{and-left, and-right}
 use Rattle.plan_text.proofs.Decimals.{decimal-small, decimal-large}
-use Rattle.plan_text.proofs.Limits.{copy-film, left-film, left-amount}
 
 -- A number below 10 has one digit.
 pub length-1 : (n : ℕ) → n < 10 → length (decimal n) ≤ 1
@@ -71,39 +69,33 @@ length-pair x =
     )
 
 -- The pairs of c copies with v viewers in sum.
-pub length-copies : (xs : List Item) → every copyAccepted xs ≡ true → total xs ≤ 65535
+pub length-copies : (limit : ℕ) → limit ≤ 65535 → (xs : List Item) → Each (Entry limit) xs
     → 9000 * length (pairsText xs) ≤ 9000 + 116000 * length xs + total xs
-length-copies [] e h = omega arith
-length-copies (x ∷ xs) e h =
+length-copies limit h [] entries = omega arith
+length-copies limit h (x ∷ xs) entries =
     omega (
       arith,
       length-append (pairText x) (pairsText xs),
       length-pair x,
-      length-5 (x .film) (omega (arith, copy-film x (and-left (copyAccepted x) (every copyAccepted xs) e))),
-      length-weighed (x .amount) (omega arith),
-      length-copies xs (and-right (copyAccepted x) (every copyAccepted xs) e) (omega arith),
+      length-5 (x .film) (omega (arith, entries .0 .filmMost)),
+      length-weighed (x .amount) (omega (arith, entries .0 .amountMost)),
+      length-copies limit h xs (entries .1),
     )
 
 -- The pairs of c left films.
-pub length-left : (xs : List Item) → every leftFilmAccepted xs ≡ true → length (pairsText xs) ≤ 1 + 16 * length xs
-length-left [] e = omega arith
-length-left (x ∷ xs) e =
-    let here = and-left (leftFilmAccepted x) (every leftFilmAccepted xs) e in
+pub length-left : (xs : List Item) → Each (Entry mostDemand) xs → length (pairsText xs) ≤ 1 + 16 * length xs
+length-left [] entries = omega arith
+length-left (x ∷ xs) entries =
     omega (
       arith,
       length-append (pairText x) (pairsText xs),
       length-pair x,
-      length-5 (x .film) (omega (arith, left-film x here)),
-      length-7 (x .amount) (omega (arith, left-amount x here)),
-      length-left xs (and-right (leftFilmAccepted x) (every leftFilmAccepted xs) e),
+      length-5 (x .film) (omega (arith, entries .0 .filmMost)),
+      length-7 (x .amount) (omega (arith, entries .0 .amountMost)),
+      length-left xs (entries .1),
     )
 
 -- Left amounts sum to at most 1,000,000 for each film.
-pub total-left : (xs : List Item) → every leftFilmAccepted xs ≡ true → total xs ≤ 1000000 * length xs
-total-left [] e = omega arith
-total-left (x ∷ xs) e =
-    omega (
-      arith,
-      left-amount x (and-left (leftFilmAccepted x) (every leftFilmAccepted xs) e),
-      total-left xs (and-right (leftFilmAccepted x) (every leftFilmAccepted xs) e),
-    )
+pub total-left : (xs : List Item) → Each (Entry mostDemand) xs → total xs ≤ 1000000 * length xs
+total-left [] entries = omega arith
+total-left (x ∷ xs) entries = omega (arith, entries .0 .amountMost, total-left xs (entries .1))

@@ -1,5 +1,4 @@
 pub mod ExamplesHold
-pub mod Choices
 pub mod Decimals
 pub mod Pieces
 pub mod Numbers
@@ -15,12 +14,10 @@ pub mod Tails
 pub mod PlanGrammar
 pub mod Laws
 pub mod Lengths
-pub mod Formed
-pub mod FormedLeft
-pub mod Parts
 pub mod LongestText
 pub mod LongestHolds
 pub mod ReadTables
 pub mod Verdicts
 pub mod RoundTrip
+pub mod OwnTables
 pub mod Planned

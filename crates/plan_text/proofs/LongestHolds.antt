@@ -3,15 +3,11 @@ use mathlib.Core.Path.{_≡_, refl}
 use mathlib.Core.Bool.{true}
 use lib.ListN.{length}
 use Rattle.plan_text.specs.Decimal.{decimal}
-use Rattle.plan_text.specs.Plan.{wellFormed}
+use Rattle.placement.specs.Plan.{wellFormed}
 use Rattle.plan_text.specs.Text.{textOf}
 use Rattle.plan_text.specs.Longest.{longestPlan}
 
--- The plan is well formed.
-pub longest-wellFormed : wellFormed longestPlan ≡ true
-longest-wellFormed = refl
-
--- Its text has 43,885 bytes.
-pub longest-length : length (textOf longestPlan) ≡ 43885
+-- The plan is well formed, and its text has 43,885 bytes.
+pub longest-length : (wellFormed longestPlan ≡ true) × (length (textOf longestPlan) ≡ 43885)
 unfolding textOf decimal
-longest-length = refl
+longest-length = (refl, refl)

@@ -10,7 +10,7 @@ use Rattle.placement.proofs.Tests.{by-test, by-order}
 use Rattle.plan_text.specs.Decimal.{digit, decimal}
 use Rattle.plan_text.specs.Parse.{parsed, unparsed, isDigit, digits, number}
 use Rattle.plan_text.specs.Capped.{saturated}
-use Rattle.plan_text.proofs.Choices.{and-left, and-right, and-true, cond-true, cond-false}
+use Rattle.placement.proofs.Conjunctions.{both-true, and-holds, cond-true, cond-false}
 use Rattle.plan_text.proofs.Decimals.{decimal-small, decimal-large, decimal-more}
 use Rattle.plan_text.proofs.Pieces.{parsed-value, parsed-rest, unparsed-parsed, chosen-parsed}
 
@@ -30,19 +30,15 @@ none-faithful = record { exact = λ n h. refl; large = λ n h. h }
 pub saturated-faithful : Faithful saturated
 saturated-faithful = record { exact = λ n h. omega arith; large = λ n h. omega arith }
 
--- A 0 is a finished number, whatever follows.
-pub number-zero : (cap : ℕ → ℕ) (r : List ℕ) → number cap (48 ∷ r) ≡ parsed 0 r
-number-zero cap r = refl
-
 -- The bytes of digits are 48 to 57.
 digit-true : (d : ℕ) → d < 10 → isDigit (digit d) ≡ true
-digit-true d h = and-true (leb 48 (digit d)) (leb (digit d) 57) (le-leb 48 (digit d) (omega arith)) (le-leb (digit d) 57 (omega arith))
+digit-true d h = and-holds (leb 48 (digit d)) (leb (digit d) 57) (le-leb 48 (digit d) (omega arith)) (le-leb (digit d) 57 (omega arith))
 
 digit-least : (b : ℕ) → isDigit b ≡ true → 48 ≤ b
-digit-least b e = leb-true 48 b (and-left (leb 48 b) (leb b 57) e)
+digit-least b e = leb-true 48 b (both-true (leb 48 b) (leb b 57) e .0)
 
 digit-most : (b : ℕ) → isDigit b ≡ true → b ≤ 57
-digit-most b e = leb-true b 57 (and-right (leb 48 b) (leb b 57) e)
+digit-most b e = leb-true b 57 (both-true (leb 48 b) (leb b 57) e .1)
 
 -- The byte of a digit, from its value.
 digit-back : (b : ℕ) → isDigit b ≡ true → digit (b - 48) ≡ b
@@ -139,6 +135,6 @@ number-digits {cap} f (suc steps) n r s g h =
 pub number-complete : {cap : ℕ → ℕ} → Faithful cap → (n b : ℕ) (r : List ℕ) → n ≤ most → isDigit b ≡ false
     → number cap (decimal n ++ (b ∷ r)) ≡ parsed n (b ∷ r)
 number-complete {cap} f zero b r h other =
-    ap (λ (t : List ℕ). number cap (t ++ (b ∷ r))) (decimal-small 0 (omega arith)) ∙ number-zero cap (b ∷ r)
+    ap (λ (t : List ℕ). number cap (t ++ (b ∷ r))) (decimal-small 0 (omega arith))
 number-complete f (suc n) b r h other =
     number-digits f (suc n) (suc n) (b ∷ r) (omega arith) (omega arith) h ∙ cond-false (isDigit b) _ _ other

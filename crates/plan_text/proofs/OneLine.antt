@@ -27,7 +27,7 @@ decimal-within (suc steps) n h =
     ∙ oneLine-append (decimal (n / 10)) (digit (n % 10) ∷ []) (decimal-within steps (n / 10) (omega arith)) (oneLine-digit (n % 10)))
 
 -- A decimal number has no line feed.
-pub decimal-oneLine : (n : ℕ) → oneLine (decimal n) ≡ true
+decimal-oneLine : (n : ℕ) → oneLine (decimal n) ≡ true
 decimal-oneLine n = decimal-within n n (omega arith)
 
 -- A pair has no line feed.
@@ -37,7 +37,7 @@ pair-oneLine x =
     (oneLine-append (decimal (x .amount)) (closed ∷ []) (decimal-oneLine (x .amount)) refl)
 
 -- Pairs have no line feed.
-pub pairs-oneLine : (xs : List Item) → oneLine (pairsText xs) ≡ true
+pairs-oneLine : (xs : List Item) → oneLine (pairsText xs) ≡ true
 pairs-oneLine [] = refl
 pairs-oneLine (x ∷ xs) = oneLine-append (pairText x) (pairsText xs) (pair-oneLine x) (pairs-oneLine xs)
 

@@ -12,12 +12,12 @@ use Rattle.placement.proofs.Tests.{by-test}
 use Rattle.plan_text.specs.Decimal.{decimal}
 use Rattle.plan_text.specs.Text.{space, opened, closed, pairText, pairsText}
 use Rattle.plan_text.specs.Parse.{Parse, parsed, unparsed, next, byte, number, pair, endOr, pairs}
-use Rattle.plan_text.proofs.Choices.{cond-true, cond-false}
+use Rattle.placement.proofs.Conjunctions.{cond-true, cond-false}
 use Rattle.plan_text.proofs.Pieces.{parsed-value, parsed-rest, unparsed-parsed, next-parsed, chosen-parsed, byte-sound}
 use Rattle.plan_text.proofs.Numbers.{Faithful, most, number-sound, number-complete}
 
 -- Both numbers of a pair are at most 1,000,000.
-abbrev pub SmallItem : Item → Type 0
+abbrev SmallItem : Item → Type 0
 SmallItem x = (x .film ≤ most) × (x .amount ≤ most)
 
 -- Every pair of a list has small numbers.
@@ -37,7 +37,7 @@ pair-append x r =
     ∙ ap (λ (s : List ℕ). decimal (x .film) ++ (space ∷ s)) (append-assoc (decimal (x .amount)) (closed ∷ []) r))
 
 -- What is read as a pair is the pair's text.
-pub pair-sound : {cap : ℕ → ℕ} → Faithful cap → (t : List ℕ) (x : Item) (r : List ℕ)
+pair-sound : {cap : ℕ → ℕ} → Faithful cap → (t : List ℕ) (x : Item) (r : List ℕ)
     → pair cap t ≡ parsed x r → SmallItem x → t ≡ pairText x ++ r
 pair-sound {cap} f t x r e small =
     next-parsed (byte opened t) _ e (λ u₁ t₁ e₁ d₁.
@@ -61,7 +61,7 @@ pair-sound {cap} f t x r e small =
     ∙ sym (pair-append x r))))))
 
 -- The text of a pair is read.
-pub pair-complete : {cap : ℕ → ℕ} → Faithful cap → (x : Item) (r : List ℕ) → SmallItem x → pair cap (pairText x ++ r) ≡ parsed x r
+pair-complete : {cap : ℕ → ℕ} → Faithful cap → (x : Item) (r : List ℕ) → SmallItem x → pair cap (pairText x ++ r) ≡ parsed x r
 pair-complete {cap} f x r small =
     ap (pair cap) (pair-append x r)
     ∙ ap (λ (p : Parse ℕ). next p (λ film t₂. next (byte space t₂) (λ u₂ t₃. next (number cap t₃) (λ amount t₄.

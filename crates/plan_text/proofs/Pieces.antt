@@ -6,7 +6,7 @@ use Prim.Native.Nat.{ℕ}
 use borrow.Author.Tests.{eqb-true, eq-eqb}
 use lib.Dec.{eqb}
 use Rattle.plan_text.specs.Parse.{Parse, parsed, unparsed, next, byte, literal}
-use Rattle.plan_text.proofs.Choices.{cond-true}
+use Rattle.placement.proofs.Conjunctions.{cond-true}
 
 -- Nothing was read.
 abbrev Fails : {A : Type 0} → Parse A → Type 0
@@ -53,7 +53,7 @@ byte-sound x (b ∷ bs) r e =
     (λ same read. ap (λ (c : ℕ). c ∷ bs) (eqb-true b x same) ∙ ap {B = List ℕ} (λ s. x ∷ s) (parsed-rest read))
 
 -- The expected byte is read.
-pub byte-complete : (x : ℕ) (r : List ℕ) → byte x (x ∷ r) ≡ parsed tt r
+byte-complete : (x : ℕ) (r : List ℕ) → byte x (x ∷ r) ≡ parsed tt r
 byte-complete x r = cond-true (eqb x x) _ _ (eq-eqb x x refl)
 
 -- A literal that was read stands at the front.

@@ -3,83 +3,79 @@ use mathlib.Core.Path.{_≡_, refl, ap, ap₂, _∙_}
 use mathlib.Core.Bool.{true}
 use mathlib.Core.List.{List, [], _∷_, _++_, map, append-assoc}
 use Prim.Native.Nat.{ℕ, zero, suc, _-_}
-use lib.Dec.{leb}
-use lib.ListN.{length, take, drop, replicate, length-map, length-replicate}
-use lib.Seq.{take-at, drop-at}
 use borrow.Author.Tests.{le-leb}
-use Rattle.placement.specs.Items.{Item, filmOf, amountOf}
-use Rattle.placement.specs.Rack.{Disk, rackOf}
-use Rattle.placement.specs.Tables.{Tables, padded, places}
-use Rattle.placement.specs.Held.{entries}
-use Rattle.placement.specs.WellFormed.{DisksWellFormed}
-use Rattle.placement.proofs.ReadBack.{entries-map, part-behind, copies-read-back}
-use Rattle.plan_text.specs.Plan.{Plan, wellFormed}
-use Rattle.plan_text.specs.Held.{planHeld, allZero, unusedPlaces, unusedZero, unusedZeroFrom, unusedZeroHeld, heldWellFormed}
+use lib.Dec.{leb}
+use lib.ListN.{length, replicate, length-map}
+use Rattle.placement.specs.Items.{Item}
+use Rattle.placement.specs.Rack.{Disk, mostDemand}
+use Rattle.placement.specs.Tables.{Tables, tables, entryOf, padded, places}
+use Rattle.placement.specs.Plan.{Plan, diskAccepted, disksAccepted, wellFormed}
+use Rattle.placement.specs.Held.{front, planHeld}
+use Rattle.placement.proofs.Conjunctions.{both-true, and-holds, false-true}
+use Rattle.placement.proofs.Formed.{disk-count, left-entries, plan-disks, plan-left}
+use Rattle.placement.proofs.Written.{padded-zeros}
+use Rattle.placement.proofs.ReadBack.{written-back, places-behind, copies-read-back}
+use Rattle.plan_text.specs.Held.{allZero, unusedPlaces, unusedZero, unusedZeroFrom, heldWellFormed}
 use Rattle.plan_text.specs.ReadCall.{holdingPlan}
-use Rattle.plan_text.proofs.Choices.{and-true}
-use Rattle.plan_text.proofs.Parts.{plan-true}
 
 -- A list of zeros passes the test of zeros.
 zeros-zero : (n : ℕ) → allZero (replicate n 0) ≡ true
 zeros-zero zero = refl
 zeros-zero (suc n) = zeros-zero n
 
--- The places of a padded part behind its items are zero.
-unused-padded : (part : Item → ℕ) (slots : ℕ) (xs : List Item) (rest : List ℕ)
-    → allZero (unusedPlaces slots (length xs) (padded slots (map part xs) ++ rest)) ≡ true
-unused-padded part slots xs rest =
-    ap (λ (l : List ℕ). allZero (take (slots - length xs) (drop (length xs) l))) (append-assoc (map part xs) zeros rest)
-    ∙ ap (λ (l : List ℕ). allZero (take (slots - length xs) l)) (drop-at (map part xs) (zeros ++ rest) (length xs) (length-map xs part))
-    ∙ ap allZero (take-at zeros rest (slots - length xs)
-    (length-replicate (slots - length (map part xs)) 0 ∙ ap (λ (n : ℕ). slots - n) (length-map xs part)))
-    ∙ zeros-zero (slots - length (map part xs))
-  where
-    zeros : List ℕ
-    zeros = replicate (slots - length (map part xs)) 0
+-- The places of an accepted disk behind its copies are zero.
+disk-unused :
+    (d : Disk) (xs : List Item) (rest : List ℕ) → diskAccepted d xs ≡ true
+    → unusedZero (d .slots) (length xs) (padded (d .slots) (map entryOf xs) ++ rest) ≡ true
+disk-unused d xs rest e =
+    and-holds (leb (length xs) (d .slots)) (allZero (unusedPlaces (d .slots) (length xs) (padded (d .slots) (map entryOf xs) ++ rest)))
+    (le-leb (length xs) (d .slots) (disk-count d xs e))
+    (ap allZero (padded-zeros (d .slots) (map entryOf xs) rest (length xs) (length-map xs entryOf)) ∙ zeros-zero (d .slots - length xs))
 
--- All unused places are zero after writing.
-pub unused-written : (disks : List Disk) (layout : List (List Item)) (films viewers counts : List ℕ) → DisksWellFormed disks layout
-    → unusedZeroFrom disks (places filmOf disks layout ++ films) (places amountOf disks layout ++ viewers) (map length layout ++ counts) ≡ true
-unused-written [] [] films viewers counts fits = refl
-unused-written (d ∷ ds) (copies ∷ rest) films viewers counts fits =
-    ap₂ (λ (f v : List ℕ). unusedZeroFrom (d ∷ ds) f v (map length (copies ∷ rest) ++ counts))
-    (append-assoc (padded (d .slots) (map filmOf copies)) (places filmOf ds rest) films)
-    (append-assoc (padded (d .slots) (map amountOf copies)) (places amountOf ds rest) viewers)
-    ∙ and-true (unusedZero (d .slots) (length copies) (padded (d .slots) (map filmOf copies) ++ (places filmOf ds rest ++ films))
-    (padded (d .slots) (map amountOf copies) ++ (places amountOf ds rest ++ viewers))) _
-    (and-true (leb (length copies) (d .slots)) _ (le-leb (length copies) (d .slots) (fits .0 .slots))
-    (and-true (allZero (unusedPlaces (d .slots) (length copies) (padded (d .slots) (map filmOf copies) ++ (places filmOf ds rest ++ films)))) _
-    (unused-padded filmOf (d .slots) copies (places filmOf ds rest ++ films))
-    (unused-padded amountOf (d .slots) copies (places amountOf ds rest ++ viewers))))
-    (ap₂ (λ (f v : List ℕ). unusedZeroFrom ds f v (map length rest ++ counts))
-    (part-behind filmOf (d .slots) copies (places filmOf ds rest ++ films) (fits .0 .slots))
-    (part-behind amountOf (d .slots) copies (places amountOf ds rest ++ viewers) (fits .0 .slots))
-    ∙ unused-written ds rest films viewers counts (fits .1))
+-- So are the unused places of accepted disks.
+unused-zero :
+    (rack : List Disk) (layout : List (List Item)) (copies counts : List ℕ) → disksAccepted rack layout ≡ true
+    → unusedZeroFrom rack (places rack layout ++ copies) (map length layout ++ counts) ≡ true
+unused-zero [] [] copies counts e = refl
+unused-zero [] (xs ∷ layout) copies counts e = false-true e
+unused-zero (d ∷ ds) [] copies counts e = false-true e
+unused-zero (d ∷ ds) (xs ∷ layout) copies counts e =
+    let parts = both-true (diskAccepted d xs) (disksAccepted ds layout) e in
+    let rest = places ds layout ++ copies in
+    ap (λ (l : List ℕ). unusedZeroFrom (d ∷ ds) l (map length (xs ∷ layout) ++ counts))
+    (append-assoc (padded (d .slots) (map entryOf xs)) (places ds layout) copies)
+    ∙ and-holds (unusedZero (d .slots) (length xs) (padded (d .slots) (map entryOf xs) ++ rest)) _ (disk-unused d xs rest (parts .0))
+    (ap (λ (l : List ℕ). unusedZeroFrom ds l (map length layout ++ counts)) (places-behind d xs rest (disk-count d xs (parts .0)))
+    ∙ unused-zero ds layout copies counts (parts .1))
 
--- The left films that were written are those held.
-left-held : (left : List Item) (films amounts : List ℕ)
-    → entries (take (length left) (map filmOf left ++ films)) (take (length left) (map amountOf left ++ amounts)) ≡ left
-left-held left films amounts =
-    ap₂ entries (take-at (map filmOf left) films (length left) (length-map left filmOf))
-    (take-at (map amountOf left) amounts (length left) (length-map left amountOf))
-    ∙ entries-map left
+module _ (p : Plan) (e : wellFormed p ≡ true) (copies counts left : List ℕ) (back : front (length (p .left)) left ≡ p .left) where
+  -- Tables whose first places hold a plan.
+  abbrev heldIn : Tables
+  heldIn = tables (places (p .rack) (p .copies) ++ copies) (map length (p .copies) ++ counts) left
 
--- The plan that the tables hold after reading is the plan read.
-pub holding-held : (p : Plan) (t : Tables) → wellFormed p ≡ true
-    → planHeld (p .disks) (p .slots) (p .streams) (holdingPlan p t) (length (p .left)) ≡ p
-holding-held p t e =
-    ap₂ (λ (copies : List (List Item)) (left : List Item). remade copies left)
-    (copies-read-back (rackOf (p .disks) (p .slots) (p .streams)) (p .copies) _ _ _ (plan-true p e .copies))
-    (left-held (p .left) _ _)
-  where
-    remade : List (List Item) → List Item → Plan
-    remade copies left =
-        record { disks = p .disks; slots = p .slots; streams = p .streams; copies = copies; left = left }
+  -- The plan that they hold is that plan.
+  pub plan-held : planHeld (p .rack) heldIn (length (p .left)) ≡ p
+  plan-held =
+      ap₂ (λ (cs : List (List Item)) (ls : List Item). remade cs ls)
+      (copies-read-back (p .rack) (p .copies) copies counts (plan-disks p e)) back
+    where
+      remade : List (List Item) → List Item → Plan
+      remade cs ls = record { rack = p .rack; copies = cs; left = ls }
 
--- They hold it well formed, unused places included.
-pub holding-wellFormed : (p : Plan) (t : Tables) → wellFormed p ≡ true
-    → heldWellFormed (p .disks) (p .slots) (p .streams) (holdingPlan p t) (length (p .left)) ≡ true
-holding-wellFormed p t e =
-    and-true (unusedZeroHeld (p .disks) (p .slots) (p .streams) (holdingPlan p t)) _
-    (unused-written (rackOf (p .disks) (p .slots) (p .streams)) (p .copies) _ _ _ (plan-true p e .copies))
-    (ap wellFormed (holding-held p t e) ∙ e)
+  -- They hold it well formed, unused places included.
+  pub plan-unused : heldWellFormed (p .rack) heldIn (length (p .left)) ≡ true
+  plan-unused =
+      and-holds (unusedZeroFrom (p .rack) (places (p .rack) (p .copies) ++ copies) (map length (p .copies) ++ counts)) _
+      (unused-zero (p .rack) (p .copies) copies counts (plan-disks p e)) (ap wellFormed plan-held ∙ e)
+
+module _ (p : Plan) (t : Tables) (e : wellFormed p ≡ true) where
+  -- The left films are read back.
+  left-back : front (length (p .left)) (holdingPlan p t .left) ≡ p .left
+  left-back = written-back mostDemand (p .left) (left-entries (p .left) (plan-left p e)) (t .left)
+
+  -- So the tables after reading hold the plan, and hold it well formed.
+  pub holding-held : planHeld (p .rack) (holdingPlan p t) (length (p .left)) ≡ p
+  holding-held = plan-held p e _ _ (holdingPlan p t .left) left-back
+
+  pub holding-wellFormed : heldWellFormed (p .rack) (holdingPlan p t) (length (p .left)) ≡ true
+  holding-wellFormed = plan-unused p e _ _ (holdingPlan p t .left) left-back

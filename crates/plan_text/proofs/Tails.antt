@@ -4,20 +4,20 @@ use mathlib.Core.Bool.{Bool, true, _&&_}
 use mathlib.Core.List.{List, [], _∷_, _++_}
 use Prim.Native.Nat.{ℕ, suc, _+_}
 use native.Mathlib.Omega.{arith}
-use borrow.Author.Tests.{le-leb, eqb-true, eq-eqb}
-use lib.Dec.{leb, eqb}
-use lib.ListN.{length}
+use borrow.Author.Tests.{le-leb}
+use lib.Dec.{leb}
 use Rattle.placement.specs.Items.{Item, total}
+use Rattle.placement.specs.Rack.{Disk}
 use Rattle.placement.specs.Method.{served}
-use Rattle.plan_text.specs.Plan.{diskAccepted, disksAccepted, leftAccepted}
+use Rattle.placement.specs.Plan.{diskAccepted, disksAccepted, leftAccepted}
+use Rattle.placement.proofs.Conjunctions.{both-true, and-holds, false-true}
 use Rattle.plan_text.specs.Text.{lineFeed, diskHead, leftLine, servedLine, lines, disksThen, pairsText}
 use Rattle.plan_text.specs.Reading.{Tail, withDisk}
-use Rattle.plan_text.proofs.Choices.{and-left, and-right, and-true}
 use Rattle.plan_text.proofs.Grammar.{Joins}
 
--- What stands behind the rack's line, of n disks, is accepted.
-abbrev pub tailAccepted : ℕ → ℕ → ℕ → Tail → Bool
-tailAccepted k l n tail = eqb (length (tail .copies)) n && (disksAccepted k l (tail .copies) && leftAccepted (tail .left))
+-- What stands behind the rack's line is accepted.
+abbrev pub tailAccepted : List Disk → Tail → Bool
+tailAccepted rack tail = disksAccepted rack (tail .copies) && leftAccepted (tail .left)
 
 -- Its text, with disks numbered from `number` on, where the disks before serve s.
 abbrev pub tailText : ℕ → ℕ → Tail → List ℕ
@@ -25,10 +25,10 @@ tailText number s tail =
     lines (disksThen number (tail .copies) (leftLine (tail .left) ∷ servedLine (s + served (tail .copies)) (total (tail .left)) ∷ []))
 
 -- Without disks: the left line, then the served line.
-pub left-joins : (k l number s : ℕ)
+pub left-joins : (number s : ℕ)
     → Joins {B = Unit {0}} leftAccepted leftLine (λ left u. true) (λ left u. servedLine s (total left) ++ (lineFeed ∷ []))
-    (tailAccepted k l 0) (tailText number s) (λ left u. record { copies = []; left = left })
-left-joins k l number s = record {
+    (tailAccepted []) (tailText number s) (λ left u. record { copies = []; left = left })
+left-joins number s = record {
   first = ([], refl);
   both = λ left u p q. p;
   split = λ c ok. split (c .copies) (c .left) ok;
@@ -37,20 +37,22 @@ left-joins k l number s = record {
       ap (λ (x : ℕ). leftLine left ++ (lineFeed ∷ (servedLine x (total left) ++ (lineFeed ∷ [])))) none′;
 }
   where
-    split : (copies : List (List Item)) (left : List Item) → tailAccepted k l 0 (record { copies = copies; left = left }) ≡ true
+    split : (copies : List (List Item)) (left : List Item) → tailAccepted [] (record { copies = copies; left = left }) ≡ true
         → (a : List Item) × (b : Unit {0}) × (leftAccepted a ≡ true) × (true ≡ true)
         × (_≡_ {A = Tail} (record { copies = []; left = a }) (record { copies = copies; left = left }))
     split [] left ok = (left, tt, ok, refl, refl)
-    split (x ∷ xs) left ok =
-        let z : suc (length xs) ≡ 0 = eqb-true (suc (length xs)) 0 (and-left (eqb (suc (length xs)) 0) _ ok) in absurd (omega arith)
+    split (x ∷ xs) left ok = false-true ok
 
 -- With disks: the first one, then what stands behind it.
-pub disk-joins : (k l n number s : ℕ)
-    → Joins (diskAccepted k l) (λ copies. diskHead number ++ pairsText copies) (λ copies rest. tailAccepted k l n rest)
-    (λ copies rest. tailText (suc number) (s + total copies) rest) (tailAccepted k l (suc n)) (tailText number s) withDisk
-disk-joins k l n number s = record {
-  first = ([], and-true (leb 0 k) (leb 0 l) (le-leb 0 k (omega arith)) (le-leb 0 l (omega arith)));
-  both = both;
+pub disk-joins : (d : Disk) (ds : List Disk) (number s : ℕ)
+    → Joins (diskAccepted d) (λ copies. diskHead number ++ pairsText copies) (λ copies rest. tailAccepted ds rest)
+    (λ copies rest. tailText (suc number) (s + total copies) rest) (tailAccepted (d ∷ ds)) (tailText number s) withDisk
+disk-joins d ds number s = record {
+  first = ([], and-holds (leb 0 (d .slots)) (leb 0 (d .load)) (le-leb 0 (d .slots) (omega arith)) (le-leb 0 (d .load) (omega arith)));
+  both = λ a b p q.
+      let rest = both-true (disksAccepted ds (b .copies)) (leftAccepted (b .left)) q in
+      and-holds (diskAccepted d a && disksAccepted ds (b .copies)) (leftAccepted (b .left))
+      (and-holds (diskAccepted d a) (disksAccepted ds (b .copies)) p (rest .0)) (rest .1);
   split = λ c ok. split (c .copies) (c .left) ok;
   text = λ copies rest e.
       let sums : s + (total copies + served (rest .copies)) ≡ s + total copies + served (rest .copies) = omega arith in
@@ -58,30 +60,16 @@ disk-joins k l n number s = record {
       ++ (lineFeed ∷ lines (disksThen (suc number) (rest .copies) (leftLine (rest .left) ∷ servedLine x (total (rest .left)) ∷ [])))) sums;
 }
   where
-    both : (a : List Item) (b : Tail) → diskAccepted k l a ≡ true → tailAccepted k l n b ≡ true → tailAccepted k l (suc n) (withDisk a b) ≡ true
-    both a b p q =
-        let count : length (b .copies) ≡ n = eqb-true (length (b .copies)) n (and-left (eqb (length (b .copies)) n) _ q) in
-        let rest = and-right (eqb (length (b .copies)) n) (disksAccepted k l (b .copies) && leftAccepted (b .left)) q in
-        and-true (eqb (suc (length (b .copies))) (suc n)) _ (eq-eqb (suc (length (b .copies))) (suc n) (ap suc count))
-        (and-true (diskAccepted k l a && disksAccepted k l (b .copies)) (leftAccepted (b .left))
-        (and-true (diskAccepted k l a) (disksAccepted k l (b .copies)) p (and-left (disksAccepted k l (b .copies)) (leftAccepted (b .left)) rest))
-        (and-right (disksAccepted k l (b .copies)) (leftAccepted (b .left)) rest))
-
-    split : (copies : List (List Item)) (left : List Item) → tailAccepted k l (suc n) (record { copies = copies; left = left }) ≡ true
-        → (a : List Item) × (b : Tail) × (diskAccepted k l a ≡ true) × (tailAccepted k l n b ≡ true)
+    split : (copies : List (List Item)) (left : List Item) → tailAccepted (d ∷ ds) (record { copies = copies; left = left }) ≡ true
+        → (a : List Item) × (b : Tail) × (diskAccepted d a ≡ true) × (tailAccepted ds b ≡ true)
         × (withDisk a b ≡ record { copies = copies; left = left })
-    split [] left ok =
-        let z : 0 ≡ suc n = eqb-true 0 (suc n) (and-left (eqb 0 (suc n)) _ ok) in absurd (omega arith)
+    split [] left ok = false-true ok
     split (x ∷ xs) left ok =
-        let sizes : suc (length xs) ≡ suc n = eqb-true (suc (length xs)) (suc n) (and-left (eqb (suc (length xs)) (suc n)) _ ok) in
-        let count : length xs ≡ n = omega arith in
-        let rest = and-right (eqb (suc (length xs)) (suc n)) ((diskAccepted k l x && disksAccepted k l xs) && leftAccepted left) ok in
-        let disks = and-left (diskAccepted k l x && disksAccepted k l xs) (leftAccepted left) rest in (
+        let parts = both-true (diskAccepted d x && disksAccepted ds xs) (leftAccepted left) ok in
+        let disks = both-true (diskAccepted d x) (disksAccepted ds xs) (parts .0) in (
           x,
           record { copies = xs; left = left },
-          and-left (diskAccepted k l x) (disksAccepted k l xs) disks,
-          and-true (eqb (length xs) n) (disksAccepted k l xs && leftAccepted left) (eq-eqb (length xs) n count)
-              (and-true (disksAccepted k l xs) (leftAccepted left) (and-right (diskAccepted k l x) (disksAccepted k l xs) disks)
-              (and-right (diskAccepted k l x && disksAccepted k l xs) (leftAccepted left) rest)),
+          disks .0,
+          and-holds (disksAccepted ds xs) (leftAccepted left) (disks .1) (parts .1),
           refl,
         )

@@ -8,7 +8,7 @@ use borrow.Author.Tests.{not-true}
 use lib.Dec.{eqb}
 use Rattle.plan_text.specs.Text.{lineFeed}
 use Rattle.plan_text.specs.Accepted.{upto}
-use Rattle.plan_text.proofs.Choices.{and-left, and-right, and-true, cond-false}
+use Rattle.placement.proofs.Conjunctions.{both-true, and-holds, cond-false}
 
 -- No byte is a line feed.
 abbrev pub oneLine : List ℕ → Bool
@@ -19,8 +19,8 @@ oneLine (b ∷ bs) = not (eqb b lineFeed) && oneLine bs
 pub oneLine-append : (xs ys : List ℕ) → oneLine xs ≡ true → oneLine ys ≡ true → oneLine (xs ++ ys) ≡ true
 oneLine-append [] ys p q = q
 oneLine-append (x ∷ xs) ys p q =
-    and-true (not (eqb x lineFeed)) (oneLine (xs ++ ys)) (and-left (not (eqb x lineFeed)) (oneLine xs) p)
-    (oneLine-append xs ys (and-right (not (eqb x lineFeed)) (oneLine xs) p) q)
+    and-holds (not (eqb x lineFeed)) (oneLine (xs ++ ys)) (both-true (not (eqb x lineFeed)) (oneLine xs) p .0)
+    (oneLine-append xs ys (both-true (not (eqb x lineFeed)) (oneLine xs) p .1) q)
 
 -- No lines are no bytes.
 pub upto-zero : (t : List ℕ) → upto zero t ≡ []
@@ -32,8 +32,8 @@ pub upto-line : (n : ℕ) (line t : List ℕ) → oneLine line ≡ true → upto
 upto-line n [] t p = refl
 upto-line n (b ∷ bs) t p =
     ap {B = List ℕ} (λ s. b ∷ s)
-    (ap (λ (m : ℕ). upto m (bs ++ (lineFeed ∷ t))) (cond-false (eqb b lineFeed) n (suc n) (not-true (eqb b lineFeed) (and-left (not (eqb b lineFeed)) (oneLine bs) p)))
-    ∙ upto-line n bs t (and-right (not (eqb b lineFeed)) (oneLine bs) p))
+    (ap (λ (m : ℕ). upto m (bs ++ (lineFeed ∷ t))) (cond-false (eqb b lineFeed) n (suc n) (not-true (eqb b lineFeed) (both-true (not (eqb b lineFeed)) (oneLine bs) p .0)))
+    ∙ upto-line n bs t (both-true (not (eqb b lineFeed)) (oneLine bs) p .1))
 
 -- A text is its first lines and a rest.
 pub upto-rest : (n : ℕ) (t : List ℕ) → (r : List ℕ) × (t ≡ upto n t ++ r)
@@ -45,7 +45,7 @@ upto-rest (suc n) (b ∷ bs) = go (upto-rest (cond (eqb b lineFeed) n (suc n)) b
     go x = (x .0, ap {B = List ℕ} (λ s. b ∷ s) (x .1))
 
 -- The first lines of the first lines.
-pub upto-upto : (n m : ℕ) (t : List ℕ) → n ≤ m → upto n (upto m t) ≡ upto n t
+upto-upto : (n m : ℕ) (t : List ℕ) → n ≤ m → upto n (upto m t) ≡ upto n t
 upto-upto n m [] h = refl
 upto-upto n zero (b ∷ bs) h =
     let none′ : n ≡ 0 = omega arith in

@@ -4,7 +4,7 @@ use mathlib.Core.Path.{_≡_}
 use mathlib.Core.Bool.{true, cond}
 use mathlib.Core.List.{List, [], _∷_}
 use lib.Dec.{eqb}
-use Rattle.plan_text.specs.Plan.{Plan, wellFormed}
+use Rattle.placement.specs.Plan.{Plan, wellFormed}
 use Rattle.plan_text.specs.Text.{textOf, lineFeed}
 
 -- "Accepted texts are exactly the writer's texts of well-formed plans."

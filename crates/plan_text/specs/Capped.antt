@@ -1,7 +1,7 @@
 -- The reading of a plan's text (Reading) with numbers that stop at 2³² − 1, as the code has them.
 use Prim.Native.Nat.{ℕ, min}
 use mathlib.Core.List.{List}
-use Rattle.plan_text.specs.Plan.{Plan}
+use Rattle.placement.specs.Plan.{Plan}
 use Rattle.plan_text.specs.Reading.{Reading, planReadWith}
 
 -- A number, or 2³² − 1 where it is larger.

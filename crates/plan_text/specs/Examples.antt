@@ -3,38 +3,41 @@
 use Prim.Native.Nat.{ℕ}
 use Prim.Native.String.{String}
 use mathlib.Core.List.{List, [], _∷_, map}
+use lib.ListN.{replicate}
+use Rattle.refusal.specs.Verdict.{Numbers}
 use Rattle.placement.specs.Items.{item}
+use Rattle.placement.specs.Rack.{rackOf}
+use Rattle.placement.specs.Plan.{Plan}
 use Rattle.plan_text.specs.Ascii.{ascii}
-use Rattle.plan_text.specs.Plan.{Plan}
 use Rattle.plan_text.specs.Text.{lines}
-use Rattle.plan_text.specs.ReadCall.{ReadNumbers}
+use Rattle.plan_text.specs.ReadCall.{Told, told}
 
 -- Lines, each ended by a line feed.
-abbrev pub ended : List String → List ℕ
-ended ls = lines (map ascii ls)
+abbrev pub textLines : List String → List ℕ
+textLines ls = lines (map ascii ls)
 
 pub record Example : Type 0 where
   pub text : List ℕ
-  pub numbers : ReadNumbers
+  pub numbers : Numbers Told
 
 -- A text that is read, with its numbers.
 abbrev plan : List ℕ → (disks slots streams served unserved left : ℕ) → Example
 plan text n k l s u left = record {
   text = text;
-  numbers = record { refusal = 0; second = 0; disks = n; slots = k; streams = l; served = s; unserved = u; left = left };
+  numbers = record { refusal = 0; second = 0; values = told n k l s u left };
 }
 
 -- Refused 9 at a line.
 abbrev refusedAt : ℕ → List ℕ → Example
 refusedAt n text = record {
   text = text;
-  numbers = record { refusal = 9; second = n; disks = 0; slots = 0; streams = 0; served = 0; unserved = 0; left = 0 };
+  numbers = record { refusal = 9; second = n; values = told 0 0 0 0 0 0 };
 }
 
 -- Case A's text, whole.
 abbrev pub caseAText : List ℕ
 caseAText =
-    ended
+    textLines
     ("(rack 3 4 6)"
     ∷ "(disk 1 (8 1) (9 1) (10 1) (11 3))"
     ∷ "(disk 2 (6 1) (7 1) (11 1) (12 3))"
@@ -46,9 +49,7 @@ caseAText =
 -- Case A's plan.
 abbrev pub caseAPlan : Plan
 caseAPlan = record {
-  disks = 3;
-  slots = 4;
-  streams = 6;
+  rack = rackOf 3 4 6;
   copies =
       (item 8 1 ∷ item 9 1 ∷ item 10 1 ∷ item 11 3 ∷ [])
       ∷ (item 6 1 ∷ item 7 1 ∷ item 11 1 ∷ item 12 3 ∷ [])
@@ -59,13 +60,13 @@ caseAPlan = record {
 
 -- A rack of one disk with two slots and load 5, with these lines behind.
 abbrev small : List String → List ℕ
-small ls = ended ("(rack 1 2 5)" ∷ ls)
+small ls = textLines ("(rack 1 2 5)" ∷ ls)
 
 -- Texts that are read.
 abbrev pub accepted : List Example
 accepted =
     plan caseAText 3 4 6 16 2 2
-    ∷ plan (ended ("(rack 2 1 1)" ∷ "(disk 1 (7 1))" ∷ "(disk 2)" ∷ "(left)" ∷ "(served 1 0)" ∷ [])) 2 1 1 1 0 0
+    ∷ plan (textLines ("(rack 2 1 1)" ∷ "(disk 1 (7 1))" ∷ "(disk 2)" ∷ "(left)" ∷ "(served 1 0)" ∷ [])) 2 1 1 1 0 0
     ∷ plan (small ("(disk 1 (2 3) (1 2))" ∷ "(left (1 1) (65535 1000000))" ∷ "(served 5 1000001)" ∷ [])) 1 2 5 5 1000001 2
     ∷ []
 
@@ -74,15 +75,15 @@ abbrev pub refusedAtLine1 : List Example
 refusedAtLine1 =
     map (refusedAt 1)
     ([]
-    ∷ ended ("" ∷ [])
+    ∷ textLines ("" ∷ [])
     ∷ ascii "(rack 1 2 5)"
-    ∷ ended ("(refused 1)" ∷ [])
-    ∷ ended ("(rack 01 2 5)" ∷ [])
-    ∷ ended ("(rack 65 2 5)" ∷ [])
-    ∷ ended ("(rack 4294967297 2 5)" ∷ [])
-    ∷ ended ("(rack  1 2 5)" ∷ [])
-    ∷ ended ("(rack 1 2 5) " ∷ [])
-    ∷ ended ("(Rack 1 2 5)" ∷ [])
+    ∷ textLines ("(refused 1)" ∷ [])
+    ∷ textLines ("(rack 01 2 5)" ∷ [])
+    ∷ textLines ("(rack 65 2 5)" ∷ [])
+    ∷ textLines ("(rack 4294967297 2 5)" ∷ [])
+    ∷ textLines ("(rack  1 2 5)" ∷ [])
+    ∷ textLines ("(rack 1 2 5) " ∷ [])
+    ∷ textLines ("(Rack 1 2 5)" ∷ [])
     ∷ [])
 
 -- Texts whose second line is refused.
@@ -103,6 +104,13 @@ refusedAtLine2 =
     ∷ small ("(disk 1 (7 1) (8 1) (9 1))" ∷ [])
     ∷ small ("(disk 1 (7 1) )" ∷ [])
     ∷ [])
+
+-- 65,537 bytes are refused 8, whatever they are; 65,536 are judged by lines.
+abbrev pub refusedByLength : List Example
+refusedByLength =
+    record { text = replicate 65537 0; numbers = record { refusal = 8; second = 0; values = told 0 0 0 0 0 0 } }
+    ∷ refusedAt 1 (replicate 65536 0)
+    ∷ []
 
 -- Texts that are refused later.
 abbrev pub refusedLater : List Example

@@ -1,6 +1,5 @@
 pub mod Ascii
 pub mod Decimal
-pub mod Plan
 pub mod Text
 pub mod Accepted
 pub mod Parse
@@ -11,6 +10,5 @@ pub mod ReadCall
 pub mod WriteCall
 pub mod Examples
 pub mod CallExamples
-pub mod Planned
-pub mod Refusal
+pub mod RefusalLine
 pub mod Longest

@@ -3,7 +3,8 @@ use Prim.Native.Nat.{ℕ, zero, suc}
 use mathlib.Core.List.{List, [], _∷_, _++_}
 use lib.ListN.{replicate}
 use Rattle.placement.specs.Items.{Item, item}
-use Rattle.plan_text.specs.Plan.{Plan}
+use Rattle.placement.specs.Rack.{rackOf}
+use Rattle.placement.specs.Plan.{Plan}
 
 -- n films from one on, each with the same amount.
 abbrev filmsFrom : ℕ → ℕ → ℕ → List Item
@@ -13,9 +14,7 @@ filmsFrom film amount (suc n) = item film amount ∷ filmsFrom (suc film) amount
 -- Every number has as many digits as its range and the disk's load leave it.
 abbrev pub longestPlan : Plan
 longestPlan = record {
-  disks = 64;
-  slots = 32;
-  streams = 65535;
+  rack = rackOf 64 32 65535;
   copies = replicate 64 (filmsFrom 10000 10000 3 ++ filmsFrom 10003 1000 29);
   left = filmsFrom 10000 1000000 1024;
 }

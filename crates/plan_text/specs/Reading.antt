@@ -3,9 +3,9 @@ use Prim.Native.Nat.{ℕ, zero, suc, _+_}
 use mathlib.Core.Bool.{Bool, true, cond}
 use mathlib.Core.List.{List, [], _∷_}
 use Rattle.placement.specs.Items.{Item, total}
-use Rattle.placement.specs.Rack.{rackAccepted}
+use Rattle.placement.specs.Rack.{Disk, rackOf, sizesInRange}
+use Rattle.placement.specs.Plan.{Plan, diskAccepted, leftAccepted, mostLeft}
 use Rattle.plan_text.specs.Ascii.{ascii}
-use Rattle.plan_text.specs.Plan.{Plan, diskAccepted, leftAccepted, mostLeft}
 use Rattle.plan_text.specs.Text.{space, closed, lineFeed, diskHead, leftHead, servedLine}
 use Rattle.plan_text.specs.Parse.{Parse, parsed, unparsed, next, byte, literal, number, pairs}
 
@@ -29,7 +29,7 @@ abbrev pub lineThen : {A B C : Type 0} → (A → B → C) → Parse A → (A �
 lineThen join (parsed a after) rest = joined (join a) (rest a after)
 lineThen join unparsed rest = refusedAfter 0
 
--- The rack's numbers.
+-- The three numbers of a text's first line.
 pub record Sizes : Type 0 where
   pub disks : ℕ
   pub slots : ℕ
@@ -42,7 +42,11 @@ pub record Tail : Type 0 where
 
 -- N, k and L are in range.
 abbrev pub sizesAccepted : Sizes → Bool
-sizesAccepted z = rackAccepted (z .disks) (z .slots) (z .streams)
+sizesAccepted z = sizesInRange (z .disks) (z .slots) (z .streams)
+
+-- The rack that they say.
+abbrev pub rackIn : Sizes → List Disk
+rackIn z = rackOf (z .disks) (z .slots) (z .streams)
 
 -- `(rack N k L)`.
 abbrev pub rackBody : (ℕ → ℕ) → List ℕ → Parse Sizes
@@ -78,28 +82,21 @@ readLeft cap s text =
 abbrev pub withDisk : List Item → Tail → Tail
 withDisk copies tail = record { copies = copies ∷ tail .copies; left = tail .left }
 
--- The lines of n disks, numbered from `number` on, and what follows, where the disks before serve s.
-abbrev pub readDisks : (ℕ → ℕ) → (slots streams n number s : ℕ) → List ℕ → Reading Tail
-readDisks cap slots streams zero number s text = readLeft cap s text
-readDisks cap slots streams (suc n) number s text =
-    lineThen withDisk (line (pairsBody cap (diskHead number) slots) (diskAccepted slots streams) text)
-    (λ copies. readDisks cap slots streams n (suc number) (s + total copies))
+-- The lines of disks, numbered from `number` on, and what follows, where the disks before serve s.
+abbrev pub readDisks : (ℕ → ℕ) → List Disk → (number s : ℕ) → List ℕ → Reading Tail
+readDisks cap [] number s text = readLeft cap s text
+readDisks cap (d ∷ ds) number s text =
+    lineThen withDisk (line (pairsBody cap (diskHead number) (d .slots)) (diskAccepted d) text)
+    (λ copies. readDisks cap ds (suc number) (s + total copies))
 
--- The rack's numbers and what stands behind them.
+-- The rack and what stands behind its line.
 abbrev pub withSizes : Sizes → Tail → Plan
-withSizes z tail = record {
-  disks = z .disks;
-  slots = z .slots;
-  streams = z .streams;
-  copies = tail .copies;
-  left = tail .left;
-}
+withSizes z tail = record { rack = rackIn z; copies = tail .copies; left = tail .left }
 
 -- The whole text.
 abbrev pub planReadWith : (ℕ → ℕ) → List ℕ → Reading Plan
 planReadWith cap text =
-    lineThen withSizes (line (rackBody cap) sizesAccepted text)
-    (λ z. readDisks cap (z .slots) (z .streams) (z .disks) 1 0)
+    lineThen withSizes (line (rackBody cap) sizesAccepted text) (λ z. readDisks cap (rackIn z) 1 0)
 
 -- With numbers of any size.
 unfoldable pub planRead : List ℕ → Reading Plan

@@ -1,10 +1,12 @@
 -- The text of a plan, line by line as document 01 fixes it.
 use Prim.Native.Nat.{ℕ, suc}
 use mathlib.Core.List.{List, [], _∷_, _++_}
+use lib.ListN.{length}
 use Rattle.placement.specs.Items.{Item}
+use Rattle.placement.specs.Rack.{Disk, firstSlots, firstLoad}
+use Rattle.placement.specs.Plan.{Plan, servedOf, unservedOf}
 use Rattle.plan_text.specs.Ascii.{ascii}
 use Rattle.plan_text.specs.Decimal.{decimal}
-use Rattle.plan_text.specs.Plan.{Plan, servedOf, unservedOf}
 
 -- The bytes that the lines are made of.
 abbrev pub space : ℕ
@@ -19,10 +21,14 @@ closed = 41
 abbrev pub lineFeed : ℕ
 lineFeed = 10
 
--- Line 1: `(rack N k L)`.
+-- `(rack N k L)`.
 abbrev pub rackLine : ℕ → ℕ → ℕ → List ℕ
 rackLine disks slots streams =
     ascii "(rack " ++ (decimal disks ++ (space ∷ decimal slots ++ (space ∷ decimal streams ++ (closed ∷ []))))
+
+-- Line 1 of a rack.
+abbrev pub firstLine : List Disk → List ℕ
+firstLine rack = rackLine (length rack) (firstSlots rack) (firstLoad rack)
 
 -- A pair: film, then viewers or amount.
 abbrev pub pairText : Item → List ℕ
@@ -65,7 +71,7 @@ disksThen number (copies ∷ rest) after = diskLine number copies ∷ disksThen 
 -- "Line 1 is the rack. Then one line a disk, one for what is left, one with S and U."
 abbrev pub linesOf : Plan → List (List ℕ)
 linesOf p =
-    rackLine (p .disks) (p .slots) (p .streams)
+    firstLine (p .rack)
     ∷ disksThen 1 (p .copies) (leftLine (p .left) ∷ servedLine (servedOf p) (unservedOf p) ∷ [])
 
 -- The text of a plan, as bytes.

@@ -1,71 +1,59 @@
 -- What writing answers and what the lent space holds afterwards, for every call.
-use Prim.Native.Nat.{ℕ, _*_}
-use mathlib.Core.Bool.{Bool, true, false, _&&_}
+use Prim.Native.Nat.{ℕ}
+use mathlib.Core.Bool.{Bool}
 use mathlib.Core.List.{List}
 use lib.Dec.{leb}
 use lib.ListN.{length}
-use Rattle.placement.specs.Rack.{rackAccepted}
-use Rattle.placement.specs.Records.{Verdict, planned, refused}
-use Rattle.placement.specs.Tables.{Tables, copyPlaces, countPlaces, leftPlaces, written}
-use Rattle.plan_text.specs.Plan.{Plan}
+use Rattle.refusal.specs.Verdict.{Verdict, given, unless, Numbers, answered, afterwards}
+use Rattle.placement.specs.Rack.{Disk}
+use Rattle.placement.specs.Tables.{Tables, roomFor, written}
+use Rattle.placement.specs.Plan.{Plan}
+use Rattle.placement.specs.Held.{planHeld}
+use Rattle.placement.specs.Planning.{rackJudged, roomJudged}
 use Rattle.plan_text.specs.Text.{textOf}
-use Rattle.plan_text.specs.Held.{planHeld, heldWellFormed}
+use Rattle.plan_text.specs.Held.{heldWellFormed}
 
--- What the caller asks: the rack's three numbers, the tables' contents, and the stated number of left films.
+-- What the caller asks: the rack, the tables' contents, and the stated number of left films.
 pub record WriteCall : Type 0 where
-  pub disks : ℕ
-  pub slots : ℕ
-  pub streams : ℕ
+  pub rack : List Disk
   pub tables : Tables
   pub left : ℕ
 
--- "7, copy table below N × k, count table below N, or left table shorter than the stated number of left films."
+abbrev pub writeCall : List Disk → Tables → ℕ → WriteCall
+writeCall rack t left = record { rack = rack; tables = t; left = left }
+
+-- The tables have a place for each slot, each disk and each of the stated left films.
 abbrev pub roomStated : WriteCall → Bool
-roomStated c =
-    leb (c .disks * c .slots) (copyPlaces (c .tables))
-    && (leb (c .disks) (countPlaces (c .tables)) && leb (c .left) (leftPlaces (c .tables)))
+roomStated c = roomFor (c .rack) (c .left) (c .tables)
 
 -- The plan that the call's tables hold.
 abbrev pub planOf : WriteCall → Plan
-planOf c = planHeld (c .disks) (c .slots) (c .streams) (c .tables) (c .left)
+planOf c = planHeld (c .rack) (c .tables) (c .left)
 
 -- They hold a well-formed plan.
 abbrev pub wellFormedCall : WriteCall → Bool
-wellFormedCall c = heldWellFormed (c .disks) (c .slots) (c .streams) (c .tables) (c .left)
+wellFormedCall c = heldWellFormed (c .rack) (c .tables) (c .left)
 
--- The next test's verdict where this one holds, else the refusal; the next test waits.
-abbrev pub ifHolds : Bool → ℕ → (Unit {0} → Verdict) → Verdict
-ifHolds true number following = following tt
-ifHolds false number following = refused number 0
-
--- 01's refusals of writing, in its order.
-abbrev pub writeVerdict : WriteCall → List ℕ → Verdict
+-- 01's refusals of writing, in its order: 1, 7, 10, 11. The length of the text is given where none applies.
+abbrev pub writeVerdict : WriteCall → List ℕ → Verdict ℕ
 writeVerdict c room =
-    ifHolds (rackAccepted (c .disks) (c .slots) (c .streams)) 1
-    (λ u₁. ifHolds (roomStated c) 7
-    (λ u₂. ifHolds (wellFormedCall c) 10
-    (λ u₃. ifHolds (leb (length (textOf (planOf c))) (length room)) 11
-    (λ u₄. planned))))
+    rackJudged (c .rack)
+    (roomJudged (c .rack) (c .left) (c .tables)
+    (unless (wellFormedCall c) 10 0
+    (unless (leb (length (textOf (planOf c))) (length room)) 11 0
+    (given (length (textOf (planOf c)))))))
 
--- The numbers of an answer: the text's length, or a refusal and zero for the rest.
-pub record WriteNumbers : Type 0 where
-  pub refusal : ℕ
-  pub second : ℕ
-  pub length : ℕ
-
--- The numbers that a verdict gives.
-abbrev pub writeAnswer : WriteCall → Verdict → WriteNumbers
-writeAnswer c planned = record { refusal = 0; second = 0; length = length (textOf (planOf c)) }
-writeAnswer c (refused number second) = record { refusal = number; second = second; length = 0 }
+-- The numbers that a verdict gives: the text's length, or a refusal and zero for the rest.
+abbrev pub writeAnswer : Verdict ℕ → Numbers ℕ
+writeAnswer v = answered 0 (λ n. n) v
 
 -- A refusal changes no byte; "bytes after the text are untouched".
-abbrev pub spaceGiven : WriteCall → List ℕ → Verdict → List ℕ
-spaceGiven c room planned = written (textOf (planOf c)) room
-spaceGiven c room (refused number second) = room
+abbrev pub spaceGiven : WriteCall → List ℕ → Verdict ℕ → List ℕ
+spaceGiven c room v = afterwards room (λ n. written (textOf (planOf c)) room) v
 
 -- The answer of a call with this space for text at entry.
-unfoldable pub writing : WriteCall → List ℕ → WriteNumbers
-writing c room = writeAnswer c (writeVerdict c room)
+unfoldable pub writing : WriteCall → List ℕ → Numbers ℕ
+writing c room = writeAnswer (writeVerdict c room)
 
 -- The bytes of the space after it.
 unfoldable pub spaceAfter : WriteCall → List ℕ → List ℕ
