@@ -1,5 +1,2 @@
-pub mod Conjunction
-pub mod Entries
-pub mod Films
+pub mod Walks
 pub mod Sums
-pub mod Zeros

@@ -1,34 +1,37 @@
--- Laws of sums of a list of numbers.
-use mathlib.Core.Path.{_≡_, refl, sym, ap, _∙_}
-use mathlib.Core.List.{List, [], _∷_, _++_}
+-- Laws of the number of a table's entries and of the sum of their amounts.
+use mathlib.Core.Path.{_≡_, sym, ap, _∙_}
+use mathlib.Core.Bool.{true, false}
+use mathlib.Core.List.{List, [], _∷_, _++_, map}
 use Prim.Native.Nat.{ℕ, _+_, _≤_, _<_}
 use native.Mathlib.Numerals.{add-one}
 use native.Mathlib.Omega.{arith}
 use borrow.Author.Tests.{lt-leb, le-leb}
 use lib.Dec.{leb}
-use lib.ListN.{length, getD, take}
+use lib.ListN.{length, getD, take, length-map}
 use lib.Seq.{take-suc}
 use Rattle.placement.specs.Items.{total}
-use Rattle.placement.specs.Held.{entries}
+use Rattle.placement.specs.Tables.{itemIn}
 use Rattle.placement.proofs.Tests.{by-order}
-use Rattle.well_formed.specs.Sum.{sumList, capped}
+use Rattle.well_formed.specs.Sum.{capped}
 
--- A sum over two lists is the sum of the sums.
-pub sumList-append : (xs ys : List ℕ) → sumList (xs ++ ys) ≡ sumList xs + sumList ys
-sumList-append [] ys = omega arith
-sumList-append (x ∷ xs) ys = omega (arith, sumList-append xs ys)
+-- There are as many items as entries.
+pub few-enough : (s : List ℕ) (most : ℕ) → length s ≤ most → leb (length (map itemIn s)) most ≡ true
+few-enough s most h = le-leb (length (map itemIn s)) most (omega (arith, length-map s itemIn))
 
--- One number more.
-pub sumList-more : (s : List ℕ) (i : ℕ) → i < length s → sumList (take (i + 1) s) ≡ sumList (take i s) + getD s i 0
-sumList-more s i h =
-    rw add-one (omega (arith, ap sumList (take-suc s i 0 h), sumList-append (take i s) (getD s i 0 ∷ [])))
+pub too-many : (s : List ℕ) (most : ℕ) → most < length s → leb (length (map itemIn s)) most ≡ false
+too-many s most h = lt-leb (length (map itemIn s)) most (omega (arith, length-map s itemIn))
 
--- The amounts of entries sum to the list's sum, where there are as many films as amounts or more.
-pub sumList-entries : (films amounts : List ℕ) → length amounts ≤ length films → sumList amounts ≡ total (entries films amounts)
-sumList-entries [] [] h = refl
-sumList-entries [] (a ∷ amounts) h = absurd (omega arith)
-sumList-entries (f ∷ films) [] h = refl
-sumList-entries (f ∷ films) (a ∷ amounts) h = omega (arith, sumList-entries films amounts (omega arith))
+-- One entry behind others adds its amount.
+total-last : (es : List ℕ) (e : ℕ) → total (map itemIn (es ++ (e ∷ []))) ≡ total (map itemIn es) + itemIn e .amount
+total-last [] e = omega arith
+total-last (x ∷ es) e = omega (arith, total-last es e)
+
+-- One entry more.
+pub total-more :
+    (s : List ℕ) (i : ℕ) → i < length s
+    → total (map itemIn (take (i + 1) s)) ≡ total (map itemIn (take i s)) + itemIn (getD s i 0) .amount
+total-more s i h =
+    rw add-one (ap (λ (es : List ℕ). total (map itemIn es)) (take-suc s i 0 h) ∙ total-last (take i s) (getD s i 0))
 
 -- A limit below the cap tests the same with it.
 pub leb-capped : (n limit : ℕ) → limit < 18446744073709551615 → leb (capped n) limit ≡ leb n limit

@@ -1,31 +1,34 @@
 // The copies of one disk: films distinct and in range, each with viewers, and at most the disk's streams in sum.
 use crate::entry;
 use crate::sum;
+use placement::Slots;
+use placement::Streams;
 ghost use mathlib.Core.Path.{_≡_};
-ghost use lib.Dec.{leb, eqb};
+ghost use mathlib.Core.List.{map};
+ghost use lib.Dec.{eqb};
 ghost use lib.ListN.{drop};
-ghost use Rattle.placement.specs.Items.{item, total, occurrences};
-ghost use Rattle.placement.specs.Held.{entries};
-ghost use Rattle.plan_text.specs.Plan.{copyAccepted, every, distinctFilms, diskAccepted};
+ghost use Rattle.placement.specs.Items.{occurrences};
+ghost use Rattle.placement.specs.Rack.{disk};
+ghost use Rattle.placement.specs.Tables.{itemIn};
+ghost use Rattle.placement.specs.Plan.{copyAccepted, every, distinctFilms, diskAccepted};
 
 // Whether one copy has a film in range and a viewer.
-fn copy_accepted(film: u32, viewers: u32) -> bool
-    ensures { λ r. ⌜ r ≡ copyAccepted (item film viewers) ⌝ }
+fn copy_accepted(copy: u64) -> bool
+    ensures { λ r. ⌜ r ≡ copyAccepted (itemIn copy) ⌝ }
 {
-    if !entry::film_accepted(film) {
+    if !entry::film_accepted(copy) {
         return false;
     }
-    1 <= viewers
+    1 <= placement::entry_amount(copy)
 }
 
 // Whether every copy is accepted.
-fn every_copy_accepted(films: &[u32], viewers: &[u32]) -> bool
-    ensures { λ r. ⌜ r ≡ every copyAccepted (entries (now (films .entry)) (now (viewers .entry))) ⌝ }
+fn every_copy_accepted(copies: &[u64]) -> bool
+    ensures { λ r. ⌜ r ≡ every copyAccepted (map itemIn (now (copies .entry))) ⌝ }
 {
-    let n = entry::count(films, viewers);
     let mut i = 0;
-    while i < n {
-        if !copy_accepted(films[i], viewers[i]) {
+    while i < copies.len() {
+        if !copy_accepted(copies[i]) {
             return false;
         }
         i += 1;
@@ -34,13 +37,12 @@ fn every_copy_accepted(films: &[u32], viewers: &[u32]) -> bool
 }
 
 // Whether no copy from a place on has the film.
-fn absent(film: u32, films: &[u32], viewers: &[u32], from: usize) -> bool
-    ensures { λ r. ⌜ r ≡ eqb (occurrences film (drop from (entries (now (films .entry)) (now (viewers .entry))))) 0 ⌝ }
+fn absent(film: u32, copies: &[u64], from: usize) -> bool
+    ensures { λ r. ⌜ r ≡ eqb (occurrences film (map itemIn (drop from (now (copies .entry))))) 0 ⌝ }
 {
-    let n = entry::count(films, viewers);
     let mut i = from;
-    while i < n {
-        if films[i] == film {
+    while i < copies.len() {
+        if placement::entry_film(copies[i]) == film {
             return false;
         }
         i += 1;
@@ -49,13 +51,13 @@ fn absent(film: u32, films: &[u32], viewers: &[u32], from: usize) -> bool
 }
 
 // Whether no film stands twice: each is absent behind its own place.
-fn distinct_films(films: &[u32], viewers: &[u32]) -> bool
-    ensures { λ r. ⌜ r ≡ distinctFilms (entries (now (films .entry)) (now (viewers .entry))) ⌝ }
+fn distinct_films(copies: &[u64]) -> bool
+    ensures { λ r. ⌜ r ≡ distinctFilms (map itemIn (now (copies .entry))) ⌝ }
 {
-    let n = entry::count(films, viewers);
     let mut i = 0;
-    while i < n {
-        if !absent(films[i], films, viewers, i + 1) {
+    while i < copies.len() {
+        let film = placement::entry_film(copies[i]);
+        if !absent(film, copies, i + 1) {
             return false;
         }
         i += 1;
@@ -63,27 +65,20 @@ fn distinct_films(films: &[u32], viewers: &[u32]) -> bool
     true
 }
 
-// Whether the viewers of all copies are at most the streams.
-fn within_streams(streams: u32, films: &[u32], viewers: &[u32]) -> bool
-    ensures { λ r. ⌜ r ≡ leb (total (entries (now (films .entry)) (now (viewers .entry)))) streams ⌝ }
-{
-    let n = entry::count(films, viewers);
-    let viewed = sum::total(&viewers[..n]);
-    viewed <= streams as u64
-}
-
 // Whether a disk of so many slots and streams can hold the copies.
-pub fn disk_accepted(slots: u32, streams: u32, films: &[u32], viewers: &[u32]) -> bool
-    ensures { λ r. ⌜ r ≡ diskAccepted slots streams (entries (now (films .entry)) (now (viewers .entry))) ⌝ }
+pub fn disk_accepted(slots: Slots, streams: Streams, copies: &[u64]) -> bool
+    ensures { λ r. ⌜ r ≡ diskAccepted (disk (slots .0) (streams .0)) (map itemIn (now (copies .entry))) ⌝ }
 {
-    if entry::count(films, viewers) > slots as usize {
+    let most = slots.0;
+    let load = streams.0;
+    if copies.len() > most as usize {
         return false;
     }
-    if !distinct_films(films, viewers) {
+    if !distinct_films(copies) {
         return false;
     }
-    if !every_copy_accepted(films, viewers) {
+    if !every_copy_accepted(copies) {
         return false;
     }
-    within_streams(streams, films, viewers)
+    sum::total(copies) <= load as u64
 }

@@ -1,17 +1,7 @@
-// Entries of two parallel slices: how many there are, and the tests of one number.
+// The tests of one number, and of the film of an entry.
 ghost use mathlib.Core.Path.{_≡_};
-ghost use Rattle.placement.specs.Rack.{inRange, mostFilm};
-ghost use Rattle.well_formed.specs.Count.{Counted};
-
-// How many entries there are: as many places as the shorter slice has.
-pub(crate) fn count(films: &[u32], amounts: &[u32]) -> usize
-    ensures { λ r. ⌜ Counted (now (films .entry)) (now (amounts .entry)) r ⌝ }
-{
-    if films.len() < amounts.len() {
-        return films.len();
-    }
-    amounts.len()
-}
+ghost use Rattle.placement.specs.Rack.{inRange, mostPlanFilm};
+ghost use Rattle.placement.specs.Tables.{itemIn};
 
 // Whether a number is at least 1 and at most a limit.
 pub(crate) fn in_range(most: u32, n: u32) -> bool
@@ -23,9 +13,10 @@ pub(crate) fn in_range(most: u32, n: u32) -> bool
     n <= most
 }
 
-// Whether a film number is accepted.
-pub(crate) fn film_accepted(film: u32) -> bool
-    ensures { λ r. ⌜ r ≡ inRange mostFilm film ⌝ }
+// Whether a plan may have the film of an entry.
+pub(crate) fn film_accepted(entry: u64) -> bool
+    ensures { λ r. ⌜ r ≡ inRange mostPlanFilm (itemIn entry .film) ⌝ }
 {
-    in_range(placement::MOST_FILM, film)
+    let film = placement::entry_film(entry);
+    in_range(placement::MOST_PLAN_FILM, film)
 }

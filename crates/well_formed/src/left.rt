@@ -1,31 +1,31 @@
 // The left films of a plan: few enough, strictly ascending, in range, each with an amount in range.
 use crate::entry;
 ghost use mathlib.Core.Path.{_≡_};
-ghost use Rattle.placement.specs.Items.{item};
-ghost use Rattle.placement.specs.Held.{entries};
-ghost use Rattle.plan_text.specs.Plan.{every, ascendingAbove, leftFilmAccepted, leftAccepted};
+ghost use mathlib.Core.List.{map};
+ghost use Rattle.placement.specs.Tables.{itemIn};
+ghost use Rattle.placement.specs.Plan.{every, ascendingAbove, leftFilmAccepted, leftAccepted};
 
 // Document 01's most left films.
 const MOST_LEFT: usize = 1_024;
 
 // Whether one left film and its amount are in range.
-fn left_film_accepted(film: u32, amount: u32) -> bool
-    ensures { λ r. ⌜ r ≡ leftFilmAccepted (item film amount) ⌝ }
+fn left_film_accepted(left: u64) -> bool
+    ensures { λ r. ⌜ r ≡ leftFilmAccepted (itemIn left) ⌝ }
 {
-    if !entry::film_accepted(film) {
+    if !entry::film_accepted(left) {
         return false;
     }
+    let amount = placement::entry_amount(left);
     entry::in_range(placement::MOST_DEMAND, amount)
 }
 
 // Whether every left film is accepted.
-fn every_left_film_accepted(films: &[u32], amounts: &[u32]) -> bool
-    ensures { λ r. ⌜ r ≡ every leftFilmAccepted (entries (now (films .entry)) (now (amounts .entry))) ⌝ }
+fn every_left_film_accepted(left: &[u64]) -> bool
+    ensures { λ r. ⌜ r ≡ every leftFilmAccepted (map itemIn (now (left .entry))) ⌝ }
 {
-    let n = entry::count(films, amounts);
     let mut i = 0;
-    while i < n {
-        if !left_film_accepted(films[i], amounts[i]) {
+    while i < left.len() {
+        if !left_film_accepted(left[i]) {
             return false;
         }
         i += 1;
@@ -34,14 +34,13 @@ fn every_left_film_accepted(films: &[u32], amounts: &[u32]) -> bool
 }
 
 // Whether the films ascend strictly from above 0. What is left, above the last film passed, gives the answer for the whole.
-fn films_ascend(films: &[u32], amounts: &[u32]) -> bool
-    ensures { λ r. ⌜ r ≡ ascendingAbove 0 (entries (now (films .entry)) (now (amounts .entry))) ⌝ }
+fn films_ascend(left: &[u64]) -> bool
+    ensures { λ r. ⌜ r ≡ ascendingAbove 0 (map itemIn (now (left .entry))) ⌝ }
 {
-    let n = entry::count(films, amounts);
     let mut last = 0;
     let mut i = 0;
-    while i < n {
-        let film = films[i];
+    while i < left.len() {
+        let film = placement::entry_film(left[i]);
         if film <= last {
             return false;
         }
@@ -52,14 +51,14 @@ fn films_ascend(films: &[u32], amounts: &[u32]) -> bool
 }
 
 // Whether a well-formed plan can have these left films.
-pub fn left_accepted(films: &[u32], amounts: &[u32]) -> bool
-    ensures { λ r. ⌜ r ≡ leftAccepted (entries (now (films .entry)) (now (amounts .entry))) ⌝ }
+pub fn left_accepted(left: &[u64]) -> bool
+    ensures { λ r. ⌜ r ≡ leftAccepted (map itemIn (now (left .entry))) ⌝ }
 {
-    if entry::count(films, amounts) > MOST_LEFT {
+    if left.len() > MOST_LEFT {
         return false;
     }
-    if !films_ascend(films, amounts) {
+    if !films_ascend(left) {
         return false;
     }
-    every_left_film_accepted(films, amounts)
+    every_left_film_accepted(left)
 }

@@ -1,125 +1,126 @@
--- The tables from a disk on: that disk's part, then the tables from the next disk on.
-use mathlib.Core.Path.{_≡_, refl, sym, ap, _∙_}
+-- The tables from a disk on: that disk's places, then the tables from the next disk on.
+use mathlib.Core.Path.{_≡_, refl, sym, ap, ap₂, _∙_}
 use mathlib.Core.Bool.{Bool, true, false, _&&_}
-use mathlib.Core.List.{List, _∷_}
-use Prim.Native.Nat.{ℕ, suc, _+_, _-_, _*_, _≤_, _<_}
-use native.Mathlib.Nat.{suc-mul, mul-le-mul-right}
+use mathlib.Core.List.{List, [], _∷_, _++_, map}
+use Prim.Native.Nat.{ℕ, zero, suc, _+_, _-_, _≤_, _<_}
 use native.Mathlib.Numerals.{add-one}
 use native.Mathlib.Omega.{arith}
-use lib.ListN.{length, take, drop, getD, length-drop}
+use borrow.Author.Tests.{leb-true}
+use lib.Dec.{leb}
+use lib.ListN.{length, take, drop, getD, length-drop, drop-of-length-le}
 use lib.Seq.{drop-drop, take-all}
-use Rattle.placement.specs.Items.{Item}
 use Rattle.placement.specs.Rack.{Disk, disk, rackOf}
-use Rattle.placement.specs.Held.{entries, copiesFrom}
-use Rattle.plan_text.specs.Plan.{diskAccepted, disksAccepted}
+use Rattle.placement.specs.Tables.{itemIn}
+use Rattle.placement.specs.Held.{front, copiesFrom}
+use Rattle.placement.specs.Plan.{diskAccepted, disksAccepted}
+use Rattle.placement.proofs.Conjunctions.{both-true, false-true}
+use Rattle.placement.proofs.Racks.{rack-length}
+use Rattle.placement.proofs.Offsets.{offset, diskAt, offset-next, offset-room, rack-disk, copies-from}
+use Rattle.plan_text.specs.Text.{lines, disksThen, diskLine}
 use Rattle.plan_text.specs.Held.{unusedZero, unusedZeroFrom}
-use Rattle.writer.specs.Call.{disksFormed}
-use Rattle.writer.proofs.Lists.{drop-next}
+use Rattle.writer.specs.Call.{disksFormed, CopyRoom}
+use Rattle.writer.specs.Space.{diskLines}
+use Rattle.writer.proofs.Runs.{line-before}
 
 -- What is lent from a place on is all that stands from there on.
 pub part-from : (xs : List ℕ) (a : ℕ) → take (length xs - a) (drop a xs) ≡ drop a xs
 part-from xs a = take-all (length xs - a) (drop a xs) (omega (arith, length-drop a xs))
 
--- The places behind a disk's places are those of the next disk on.
-next-places : (k d : ℕ) (xs : List ℕ) → drop k (drop (d * k) xs) ≡ drop ((d + 1) * k) xs
-next-places k d xs =
-    let e : d * k + k ≡ (d + 1) * k = omega (arith, suc-mul d k, ap (λ (z : ℕ). z * k) (add-one d)) in
-    drop-drop k (d * k) xs ∙ ap (λ (z : ℕ). drop z xs) e
+-- What one disk's places are tested for.
+abbrev pub diskFormed : Disk → ℕ → List ℕ → Bool
+diskFormed d n places = unusedZero (d .slots) n places && diskAccepted d (front n places)
 
--- A disk's places stand within the places of all disks.
-pub disk-room : (disks k d n : ℕ) → d < disks → disks * k ≤ n → d * k + k ≤ n
-disk-room disks k d n more room =
-    let within : suc d * k ≤ disks * k = mul-le-mul-right k more in
-    omega (arith, suc-mul d k)
+-- Two conjunctions, taken disk by disk.
+by-disk : (u us x xs : Bool) → ((u && us) && (x && xs)) ≡ ((u && x) && (us && xs))
+by-disk true true x xs = refl
+by-disk true false true xs = refl
+by-disk true false false xs = refl
+by-disk false us x xs = refl
 
-module _ (disks k l : ℕ) (films viewers counts : List ℕ) where
-  -- The copies and the tests of the disks from d on, disks counted from 0.
-  abbrev pub copiesAt : ℕ → List (List Item)
-  copiesAt d = copiesFrom (rackOf (disks - d) k l) (drop (d * k) films) (drop (d * k) viewers) (drop d counts)
+-- The tests from a disk on: its own, then those from the next disk on.
+formed-from :
+    (rack : List Disk) (copies counts : List ℕ) (d : ℕ) → d < length rack → d < length counts
+    → disksFormed (drop d rack) copies (drop d counts)
+    ≡ (diskFormed (diskAt rack d) (getD counts d 0) copies
+    && disksFormed (drop (suc d) rack) (drop (diskAt rack d .slots) copies) (drop (suc d) counts))
+formed-from [] copies counts d h g = absurd (omega arith)
+formed-from (x ∷ xs) copies [] d h g = absurd (omega arith)
+formed-from (x ∷ xs) copies (n ∷ counts) zero h g =
+    by-disk (unusedZero (x .slots) n copies) (unusedZeroFrom xs (drop (x .slots) copies) counts) (diskAccepted x (front n copies))
+    (disksAccepted xs (copiesFrom xs (drop (x .slots) copies) counts))
+formed-from (x ∷ xs) copies (n ∷ counts) (suc d) h g = formed-from xs copies counts d (omega arith) (omega arith)
 
-  -- The test of the unused places from disk d on.
-  abbrev pub unusedAt : ℕ → Bool
-  unusedAt d = unusedZeroFrom (rackOf (disks - d) k l) (drop (d * k) films) (drop (d * k) viewers) (drop d counts)
+-- Where the unused places are zero, no disk has more copies than slots.
+unused-within :
+    (rack : List Disk) (copies counts : List ℕ) → unusedZeroFrom rack copies counts ≡ true → (d : ℕ) → d < length rack
+    → getD counts d 0 ≤ diskAt rack d .slots
+unused-within [] copies counts e d h = absurd (omega arith)
+unused-within (x ∷ xs) copies [] e d h = false-true e
+unused-within (x ∷ xs) copies (n ∷ counts) e zero h =
+    leb-true n (x .slots) (both-true (leb n (x .slots)) _ (both-true (unusedZero (x .slots) n copies) _ e .0) .0)
+unused-within (x ∷ xs) copies (n ∷ counts) e (suc d) h =
+    unused-within xs (drop (x .slots) copies) counts (both-true (unusedZero (x .slots) n copies) _ e .1) d (omega arith)
 
-  -- Both tests from disk d on.
-  abbrev pub formedAt : ℕ → Bool
-  formedAt d = disksFormed (disks - d) k l (drop (d * k) films) (drop (d * k) viewers) (drop d counts)
+-- Behind the last disk there is none.
+pub no-disk : (n k l d : ℕ) → n ≤ d → drop d (rackOf n k l) ≡ []
+no-disk n k l d h = drop-of-length-le (rackOf n k l) {i = d} (omega (arith, rack-length n k l))
 
-  -- From disk 0 on stand all disks.
-  pub from-start : {A : Type 0} (g : List Disk → List ℕ → List ℕ → List ℕ → A) → g (rackOf (disks - 0) k l) (drop (0 * k) films) (drop (0 * k) viewers) (drop 0 counts) ≡ g (rackOf disks k l) films viewers counts
-  from-start g =
-      let all : disks - 0 ≡ disks = omega arith in
-      let first : 0 * k ≡ 0 = omega arith in
-      ap (λ (n : ℕ). g (rackOf n k l) (drop (0 * k) films) (drop (0 * k) viewers) counts) all
-      ∙ ap (λ (n : ℕ). g (rackOf disks k l) (drop n films) (drop n viewers) counts) first
+-- N equal disks of k slots, and disk d of them.
+module _ (n k l : ℕ) (d : ℕ) (more : d < n) where
+  -- It is one of them, and has k slots.
+  inside : d < length (rackOf n k l)
+  inside = omega (arith, rack-length n k l, more)
 
-  -- The tests from disk 0 on are those of all disks.
-  pub formed-start : formedAt 0 ≡ disksFormed disks k l films viewers counts
-  formed-start = from-start (λ ds f v c. unusedZeroFrom ds f v c && disksAccepted k l (copiesFrom ds f v c))
+  slots-here : diskAt (rackOf n k l) d .slots ≡ k
+  slots-here = ap (λ (x : Disk). x .slots) (rack-disk n k l d more)
 
-  -- Behind the last disk no test is left.
-  pub formed-end : (d : ℕ) → disks ≤ d → true ≡ formedAt d
-  formed-end d h =
-      let none : 0 ≡ disks - d = omega arith in
-      ap (λ (n : ℕ). disksFormed n k l (drop (d * k) films) (drop (d * k) viewers) (drop d counts)) none
+  -- The next disk's first place.
+  pub first-next : offset (rackOf n k l) (d + 1) ≡ offset (rackOf n k l) d + k
+  first-next = rw add-one (omega (arith, offset-next (rackOf n k l) d inside, slots-here))
 
-  -- The copies of disk d.
-  abbrev pub copiesOn : ℕ → List Item
-  copiesOn d = entries (take (getD counts d 0) (drop (d * k) films)) (take (getD counts d 0) (drop (d * k) viewers))
+  module _ (copies counts : List ℕ) where
+    -- The count table has a place for it.
+    pub count-place : CopyRoom (rackOf n k l) copies counts → d < length counts
+    count-place room = omega (arith, inside, room .countPlaces)
 
-  module _ (d : ℕ) (more : d < disks) (counted : d < length counts) where
-    -- The part of a table from disk d's first place on, as it is lent.
-    abbrev lent : List ℕ → List ℕ
-    lent xs = take (length xs - d * k) (drop (d * k) xs)
+    -- Its places are in the copy table.
+    pub first-room : CopyRoom (rackOf n k l) copies counts → offset (rackOf n k l) d + k ≤ length copies
+    first-room room = omega (arith, offset-room (rackOf n k l) d inside, slots-here, room .copyPlaces)
 
-    -- The first of the disks from d on, and its count.
-    one-more : {A : Type 0} (g : List Disk → List ℕ → A) → g (rackOf (disks - d) k l) (drop d counts) ≡ g (disk k l ∷ rackOf (disks - (d + 1)) k l) (getD counts d 0 ∷ drop (d + 1) counts)
-    one-more g =
-        let e : disks - d ≡ suc (disks - (d + 1)) = omega arith in
-        ap (λ (n : ℕ). g (rackOf n k l) (drop d counts)) e
-        ∙ ap (g (disk k l ∷ rackOf (disks - (d + 1)) k l)) (drop-next counts d counted)
+    -- Its copies are in its places.
+    pub count-within : unusedZeroFrom (rackOf n k l) copies counts ≡ true → getD counts d 0 ≤ k
+    count-within e = omega (arith, unused-within (rackOf n k l) copies counts e d inside, slots-here)
 
-    -- The places from the next disk on.
-    behind : {A : Type 0} (g : List ℕ → List ℕ → A) → g (drop k (drop (d * k) films)) (drop k (drop (d * k) viewers)) ≡ g (drop ((d + 1) * k) films) (drop ((d + 1) * k) viewers)
-    behind g =
-        ap (λ (f : List ℕ). g f (drop k (drop (d * k) viewers))) (next-places k d films)
-        ∙ ap (g (drop ((d + 1) * k) films)) (next-places k d viewers)
+    module _ (counted : d < length counts) (first : ℕ) where
+      -- The tests from disk d on, where its places are those from `first` on: its own, then those from the next disk on.
+      pub formed-next :
+          disksFormed (drop d (rackOf n k l)) (drop first copies) (drop d counts)
+          ≡ (diskFormed (disk k l) (getD counts d 0) (drop first copies)
+          && disksFormed (drop (d + 1) (rackOf n k l)) (drop (first + k) copies) (drop (d + 1) counts))
+      formed-next =
+          rw add-one (formed-from (rackOf n k l) (drop first copies) counts d inside counted
+          ∙ ap (λ (x : Disk). diskFormed x (getD counts d 0) (drop first copies) && disksFormed (drop (suc d) (rackOf n k l)) (drop (x .slots) (drop first copies)) (drop (suc d) counts)) (rack-disk n k l d more)
+          ∙ ap (λ (behind : List ℕ). diskFormed (disk k l) (getD counts d 0) (drop first copies) && disksFormed (drop (suc d) (rackOf n k l)) behind (drop (suc d) counts)) (drop-drop k first copies))
 
-    -- The copies of disk d, then those from the next disk on.
-    pub copies-next : copiesAt d ≡ copiesOn d ∷ copiesAt (d + 1)
-    copies-next =
-        one-more (λ ds c. copiesFrom ds (drop (d * k) films) (drop (d * k) viewers) c)
-        ∙ behind (λ f v. copiesOn d ∷ copiesFrom (rackOf (disks - (d + 1)) k l) f v (drop (d + 1) counts))
+      -- The copies from disk d on: its own, as they are lent, then those from the next disk on.
+      copies-next :
+          copiesFrom (drop d (rackOf n k l)) (drop first copies) (drop d counts)
+          ≡ map itemIn (take (first + getD counts d 0 - first) (drop first copies))
+          ∷ copiesFrom (drop (d + 1) (rackOf n k l)) (drop (first + k) copies) (drop (d + 1) counts)
+      copies-next =
+          let count : getD counts d 0 ≡ first + getD counts d 0 - first = omega arith in
+          rw add-one (copies-from (rackOf n k l) (drop first copies) counts d inside counted
+          ∙ ap₂ (λ (m s : ℕ). front m (drop first copies) ∷ copiesFrom (drop (suc d) (rackOf n k l)) (drop s (drop first copies)) (drop (suc d) counts)) count slots-here
+          ∙ ap (λ (behind : List ℕ). front (first + getD counts d 0 - first) (drop first copies) ∷ copiesFrom (drop (suc d) (rackOf n k l)) behind (drop (suc d) counts)) (drop-drop k first copies))
 
-    -- The unused places of disk d, then those from the next disk on.
-    pub unused-next : unusedAt d ≡ (unusedZero k (getD counts d 0) (drop (d * k) films) (drop (d * k) viewers) && unusedAt (d + 1))
-    unused-next =
-        one-more (λ ds c. unusedZeroFrom ds (drop (d * k) films) (drop (d * k) viewers) c)
-        ∙ behind (λ f v. unusedZero k (getD counts d 0) (drop (d * k) films) (drop (d * k) viewers) && unusedZeroFrom (rackOf (disks - (d + 1)) k l) f v (drop (d + 1) counts))
-
-    -- Both tests of disk d, then those from the next disk on.
-    pub formed-next : formedAt d ≡ ((unusedZero k (getD counts d 0) (drop (d * k) films) (drop (d * k) viewers) && diskAccepted k l (copiesOn d)) && formedAt (d + 1))
-    formed-next =
-        ap (λ (b : Bool). b && disksAccepted k l (copiesAt d)) unused-next
-        ∙ ap (λ (cs : List (List Item)). (unusedZero k (getD counts d 0) (drop (d * k) films) (drop (d * k) viewers) && unusedAt (d + 1)) && disksAccepted k l cs) copies-next
-        ∙ by-disk (unusedZero k (getD counts d 0) (drop (d * k) films) (drop (d * k) viewers)) (unusedAt (d + 1)) (diskAccepted k l (copiesOn d)) (disksAccepted k l (copiesAt (d + 1)))
-      where
-        -- Two conjunctions, taken disk by disk.
-        by-disk : (u us x xs : Bool) → ((u && us) && (x && xs)) ≡ ((u && x) && (us && xs))
-        by-disk true true x xs = refl
-        by-disk true false true xs = refl
-        by-disk true false false xs = refl
-        by-disk false us x xs = refl
-
-    -- The test of disk d, whose part of the tables is lent, then those of the disks behind it.
-    pub formed-by : (r : Bool) → r ≡ (unusedZero k (getD counts d 0) (lent films) (lent viewers) && diskAccepted k l (entries (take (getD counts d 0) (lent films)) (take (getD counts d 0) (lent viewers)))) → formedAt d ≡ (r && formedAt (d + 1))
-    formed-by r tested =
-        formed-next
-        ∙ ap (λ (b : Bool). b && formedAt (d + 1))
-        (ap (λ (f : List ℕ). test f (drop (d * k) viewers)) (sym (part-from films (d * k)))
-        ∙ ap (test (lent films)) (sym (part-from viewers (d * k)))
-        ∙ sym tested)
-      where
-        -- Both tests of one disk, of the parts that hold it.
-        test : List ℕ → List ℕ → Bool
-        test f v = unusedZero k (getD counts d 0) f v && diskAccepted k l (entries (take (getD counts d 0) f) (take (getD counts d 0) v))
+      -- So for their lines.
+      pub lines-next :
+          diskLines (d + 1) (copiesFrom (drop d (rackOf n k l)) (drop first copies) (drop d counts))
+          ≡ lines (diskLine (d + 1) (map itemIn (take (first + getD counts d 0 - first) (drop first copies))) ∷ [])
+          ++ diskLines (d + 1 + 1) (copiesFrom (drop (d + 1) (rackOf n k l)) (drop (first + k) copies) (drop (d + 1) counts))
+      lines-next =
+          let here = diskLine (d + 1) (map itemIn (take (first + getD counts d 0 - first) (drop first copies))) in
+          let behind = copiesFrom (drop (d + 1) (rackOf n k l)) (drop (first + k) copies) (drop (d + 1) counts) in
+          ap (diskLines (d + 1)) copies-next
+          ∙ ap (λ (number : ℕ). lines (here ∷ disksThen number behind [])) (sym (add-one (d + 1)))
+          ∙ sym (line-before here (disksThen (d + 1 + 1) behind []))

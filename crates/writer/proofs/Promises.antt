@@ -1,4 +1,4 @@
--- The whole promise of `write` follows from its first two equations: the answer and the bytes of the definition.
+-- The whole promise of `write` follows from the verdict on the call.
 use Prim.Native.Nat.{ℕ, _≤_}
 use mathlib.Core.Path.{_≡_, sym, ap, _∙_}
 use mathlib.Core.Bool.{true}
@@ -6,92 +6,93 @@ use mathlib.Core.List.{List, _++_}
 use native.Mathlib.Omega.{arith}
 use lib.ListN.{length, take, drop}
 use lib.Seq.{take-append-seam, drop-append-seam}
+use Rattle.refusal.specs.Verdict.{Verdict, given, refused, Numbers}
 use Rattle.placement.specs.Rack.{rackAccepted}
-use Rattle.placement.specs.Tables.{written}
 use Rattle.placement.proofs.Tests.{by-test, by-order}
-use Rattle.plan_text.specs.WriteCall.{WriteCall, WriteNumbers, planOf, roomStated, wellFormedCall, writing, spaceAfter}
-use Rattle.writer.specs.Answers.{refusedWith}
+use Rattle.plan_text.specs.WriteCall.{WriteCall, planOf, roomStated, wellFormedCall, writeVerdict, writeAnswer, spaceGiven, writing, spaceAfter}
 use Rattle.writer.specs.WritePromise.{WritePromise, textHeld}
 use Rattle.writer.proofs.Calls.{formed-plan}
-use Rattle.writer.proofs.Verdicts.{Ends, ends-rack, ends-tables, ends-plan, ends-space, ends-written}
-
--- The numbers of an answer without refusal.
-abbrev writtenOf : WriteCall → WriteNumbers
-writtenOf c = record { refusal = 0; second = 0; length = length (textHeld c) }
+use Rattle.writer.proofs.Verdicts.{refused-rack, refused-tables, refused-plan, refused-space, given-text}
 
 -- What follows whether a call is refused or its text is written.
 by-end :
     {P : Type 0} (c : WriteCall) (room : List ℕ)
-    → ((number : ℕ) → 1 ≤ number → Ends c room (refusedWith number) room → P)
-    → (wellFormedCall c ≡ true → Ends c room (writtenOf c) (written (textHeld c) room) → P)
+    → ((number : ℕ) → 1 ≤ number → writeVerdict c room ≡ refused number 0 → P)
+    → (wellFormedCall c ≡ true → writeVerdict c room ≡ given (length (textHeld c)) → P)
     → P
 by-end c room refusal text =
-    by-test (rackAccepted (c .disks) (c .slots) (c .streams))
+    by-test (rackAccepted (c .rack))
     (λ rack.
     by-test (roomStated c)
     (λ stated.
     by-test (wellFormedCall c)
     (λ formed.
     by-order (length room) (length (textHeld c))
-    (λ short. refusal 11 (omega arith) (ends-space c room rack stated formed short))
-    (λ fits. text formed (ends-written c room rack stated formed fits)))
-    (λ formed. refusal 10 (omega arith) (ends-plan c room rack stated formed)))
-    (λ stated. refusal 7 (omega arith) (ends-tables c room rack stated)))
-    (λ rack. refusal 1 (omega arith) (ends-rack c room rack))
+    (λ short. refusal 11 (omega arith) (refused-space c room rack stated formed short))
+    (λ fits. text formed (given-text c room rack stated formed fits)))
+    (λ formed. refusal 10 (omega arith) (refused-plan c room rack stated formed)))
+    (λ stated. refusal 7 (omega arith) (refused-tables c room rack stated)))
+    (λ rack. refusal 1 (omega arith) (refused-rack c room rack))
 
--- The refusal of an answer.
-abbrev refusalOf : WriteNumbers → ℕ
-refusalOf n = n .refusal
+-- The answer and the bytes of a verdict.
+definition-answers : (c : WriteCall) (room : List ℕ) (v : Verdict ℕ) → writeVerdict c room ≡ v → writing c room ≡ writeAnswer v
+unfolding writing
+definition-answers c room v e = ap writeAnswer e
 
--- Its second number.
-abbrev secondOf : WriteNumbers → ℕ
-secondOf n = n .second
+definition-leaves : (c : WriteCall) (room : List ℕ) (v : Verdict ℕ) → writeVerdict c room ≡ v → spaceAfter c room ≡ spaceGiven c room v
+unfolding spaceAfter
+definition-leaves c room v e = ap (spaceGiven c room) e
 
--- Its length.
-abbrev lengthOf : WriteNumbers → ℕ
-lengthOf n = n .length
+module _ (c : WriteCall) (room exit : List ℕ) (answer : Numbers ℕ) (same : answer ≡ writing c room) (left : exit ≡ spaceAfter c room) where
+  -- They are those of this call.
+  answers : {v : Verdict ℕ} → writeVerdict c room ≡ v → answer ≡ writeAnswer v
+  answers {v} e = same ∙ definition-answers c room v e
 
-module _ (c : WriteCall) (room exit : List ℕ) (answer : WriteNumbers) (same : answer ≡ writing c room) (left : exit ≡ spaceAfter c room) where
-  -- The refusal of the answer is that of the way the call ends.
-  refused-by : {n : WriteNumbers} {after : List ℕ} → Ends c room n after → answer .refusal ≡ n .refusal
-  refused-by e = ap refusalOf (same ∙ e .answers)
+  leaves : {v : Verdict ℕ} → writeVerdict c room ≡ v → exit ≡ spaceGiven c room v
+  leaves {v} e = left ∙ definition-leaves c room v e
+
+  -- The numbers of the answer are those of the verdict.
+  refusal-of : {v : Verdict ℕ} → writeVerdict c room ≡ v → answer .refusal ≡ writeAnswer v .refusal
+  refusal-of e = ap (λ (n : Numbers ℕ). n .refusal) (answers e)
+
+  length-of : {v : Verdict ℕ} → writeVerdict c room ≡ v → answer .values ≡ writeAnswer v .values
+  length-of e = ap (λ (n : Numbers ℕ). n .values) (answers e)
 
   -- Writing has no second number.
   second-zero : answer .second ≡ 0
-  second-zero = by-end c room (λ number h e. ap secondOf (same ∙ e .answers)) (λ formed e. ap secondOf (same ∙ e .answers))
+  second-zero =
+      by-end c room (λ number some e. ap (λ (n : Numbers ℕ). n .second) (answers e)) (λ formed e. ap (λ (n : Numbers ℕ). n .second) (answers e))
 
-  -- A refusal has no length.
-  length-zero : 1 ≤ answer .refusal → answer .length ≡ 0
-  length-zero h =
-      by-end c room (λ number some e. ap lengthOf (same ∙ e .answers)) (λ formed e. absurd (omega (arith, refused-by e)))
+  -- A refusal has no length and changes no byte.
+  module _ (some : 1 ≤ answer .refusal) where
+    length-zero : answer .values ≡ 0
+    length-zero = by-end c room (λ number more e. length-of e) (λ formed e. absurd (omega (arith, refusal-of e)))
 
-  -- A refusal changes no byte.
-  byte-kept : 1 ≤ answer .refusal → exit ≡ room
-  byte-kept h = by-end c room (λ number some e. left ∙ e .leaves) (λ formed e. absurd (omega (arith, refused-by e)))
+    byte-kept : exit ≡ room
+    byte-kept = by-end c room (λ number more e. leaves e) (λ formed e. absurd (omega (arith, refusal-of e)))
 
   module _ (none : answer .refusal ≡ 0) where
     -- Without refusal the tables hold a well-formed plan.
     plan-formed : wellFormedCall c ≡ true
-    plan-formed = by-end c room (λ number some e. absurd (omega (arith, refused-by e))) (λ formed e. formed)
+    plan-formed = by-end c room (λ number some e. absurd (omega (arith, refusal-of e))) (λ formed e. formed)
 
     -- The answer is the length of the text.
-    text-counted : answer .length ≡ length (textHeld c)
-    text-counted =
-        by-end c room (λ number some e. absurd (omega (arith, refused-by e))) (λ formed e. ap lengthOf (same ∙ e .answers))
+    text-counted : answer .values ≡ length (textHeld c)
+    text-counted = by-end c room (λ number some e. absurd (omega (arith, refusal-of e))) (λ formed e. length-of e)
 
     -- The space is the text, then what stood behind it.
     text-stored : exit ≡ textHeld c ++ drop (length (textHeld c)) room
-    text-stored = by-end c room (λ number some e. absurd (omega (arith, refused-by e))) (λ formed e. left ∙ e .leaves)
+    text-stored = by-end c room (λ number some e. absurd (omega (arith, refusal-of e))) (λ formed e. leaves e)
 
     -- The first bytes are the text.
-    text-first : take (answer .length) exit ≡ textHeld c
+    text-first : take (answer .values) exit ≡ textHeld c
     text-first =
         ap (λ (n : ℕ). take n exit) text-counted
         ∙ ap (take (length (textHeld c))) text-stored
         ∙ take-append-seam (textHeld c) (drop (length (textHeld c)) room)
 
     -- The bytes after the text are untouched.
-    after-kept : drop (answer .length) exit ≡ drop (answer .length) room
+    after-kept : drop (answer .values) exit ≡ drop (answer .values) room
     after-kept =
         ap (λ (n : ℕ). drop n exit) text-counted
         ∙ ap (drop (length (textHeld c))) text-stored
@@ -99,15 +100,15 @@ module _ (c : WriteCall) (room exit : List ℕ) (answer : WriteNumbers) (same : 
         ∙ sym (ap (λ (n : ℕ). drop n room) text-counted)
 
   -- The whole promise.
-  pub promise : WritePromise c room exit answer
+  promise : WritePromise c room exit answer
   promise = record {
     numbers = same;
     bytes = left;
-    refusesRack = λ rack. refused-by (ends-rack c room rack);
-    refusesTables = λ rack stated. refused-by (ends-tables c room rack stated);
-    refusesPlan = λ rack stated formed. refused-by (ends-plan c room rack stated formed);
-    refusesSpace = λ rack stated formed short. refused-by (ends-space c room rack stated formed short);
-    writes = λ rack stated formed fits. refused-by (ends-written c room rack stated formed fits);
+    refusesRack = λ rack. refusal-of (refused-rack c room rack);
+    refusesTables = λ rack stated. refusal-of (refused-tables c room rack stated);
+    refusesPlan = λ rack stated formed. refusal-of (refused-plan c room rack stated formed);
+    refusesSpace = λ rack stated formed short. refusal-of (refused-space c room rack stated formed short);
+    writes = λ rack stated formed fits. refusal-of (given-text c room rack stated formed fits);
     noSecond = second-zero;
     noLength = length-zero;
     noByte = byte-kept;
@@ -118,6 +119,9 @@ module _ (c : WriteCall) (room exit : List ℕ) (answer : WriteNumbers) (same : 
     after = after-kept;
   }
 
--- At each end of a call: an answer and bytes that are those of the end have the promise.
-pub promise-at : {c : WriteCall} {room exit : List ℕ} {answer ended : WriteNumbers} {after : List ℕ} → Ends c room ended after → answer ≡ ended → exit ≡ after → WritePromise c room exit answer
-promise-at {c} {room} {exit} {answer} e same left = promise c room exit answer (same ∙ sym (e .answers)) (left ∙ sym (e .leaves))
+-- At each end of a call: an answer and bytes that are those of its verdict have the promise.
+pub promise-at :
+    {c : WriteCall} {room exit : List ℕ} {answer : Numbers ℕ} {v : Verdict ℕ} → writeVerdict c room ≡ v → answer ≡ writeAnswer v
+    → exit ≡ spaceGiven c room v → WritePromise c room exit answer
+promise-at {c} {room} {exit} {answer} {v} e same left =
+    promise c room exit answer (same ∙ sym (definition-answers c room v e)) (left ∙ sym (definition-leaves c room v e))

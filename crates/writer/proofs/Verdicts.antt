@@ -1,72 +1,57 @@
--- The definition of writing at each way that a call ends: one law for each refusal, and one for a text that is written.
+-- The verdict on a call at each way that it ends: one law for each refusal, and one for a text that is written.
 use Prim.Native.Nat.{ℕ, _≤_, _<_}
-use mathlib.Core.Path.{_≡_, ap, _∙_}
-use mathlib.Core.Bool.{Bool, true, false}
+use mathlib.Core.Path.{_≡_, _∙_}
+use mathlib.Core.Bool.{true, false}
 use mathlib.Core.List.{List}
 use borrow.Author.Tests.{le-leb, lt-leb}
 use lib.Dec.{leb}
 use lib.ListN.{length}
-use Rattle.placement.specs.Records.{Verdict, planned, refused}
-use Rattle.placement.specs.Tables.{written}
-use Rattle.plan_text.specs.WriteCall.{WriteCall, WriteNumbers, ifHolds, roomStated, wellFormedCall, writeVerdict, writeAnswer, spaceGiven, writing, spaceAfter}
-use Rattle.writer.specs.Answers.{refusedWith}
-use Rattle.writer.specs.WritePromise.{RackRefused, RackHolds, textHeld}
-
--- The answer and the bytes of the definition.
-pub record Ends (c : WriteCall) (room : List ℕ) (answer : WriteNumbers) (after : List ℕ) : Type 0 where
-  pub answers : writing c room ≡ answer
-  pub leaves : spaceAfter c room ≡ after
-
--- A verdict gives the answer and the bytes.
-ends : (c : WriteCall) (room : List ℕ) (v : Verdict) → writeVerdict c room ≡ v → Ends c room (writeAnswer c v) (spaceGiven c room v)
-unfolding writing spaceAfter
-ends c room v e = record { answers = ap (writeAnswer c) e; leaves = ap (spaceGiven c room) e }
+use Rattle.refusal.specs.Verdict.{Verdict, given, refused, unless}
+use Rattle.refusal.proofs.Verdicts.{unless-passes, unless-refuses}
+use Rattle.placement.specs.Rack.{rackAccepted}
+use Rattle.plan_text.specs.WriteCall.{WriteCall, roomStated, wellFormedCall, writeVerdict}
+use Rattle.writer.specs.WritePromise.{textHeld}
 
 module _ (c : WriteCall) (room : List ℕ) where
-  -- The verdict by whether the space is long enough.
-  abbrev bySpace : Bool → Verdict
-  bySpace b = ifHolds b 11 (λ u. planned)
+  -- The verdict behind the test of the plan, of the tables and of the rack.
+  abbrev bySpace : Verdict ℕ
+  bySpace = unless (leb (length (textHeld c)) (length room)) 11 0 (given (length (textHeld c)))
 
-  -- The verdict by whether the plan is well formed.
-  abbrev byPlan : Bool → Verdict
-  byPlan b = ifHolds b 10 (λ u. bySpace (leb (length (textHeld c)) (length room)))
+  abbrev byPlan : Verdict ℕ
+  byPlan = unless (wellFormedCall c) 10 0 bySpace
 
-  -- The verdict by whether the tables are long enough.
-  abbrev byTables : Bool → Verdict
-  byTables b = ifHolds b 7 (λ u. byPlan (wellFormedCall c))
-
-  -- The verdict by whether the rack is accepted.
-  abbrev byRack : Bool → Verdict
-  byRack b = ifHolds b 1 (λ u. byTables (roomStated c))
-
-  -- The verdict behind each test that holds.
-  behind-rack : RackHolds c → writeVerdict c room ≡ byTables (roomStated c)
-  behind-rack rack = ap byRack rack
-
-  behind-tables : RackHolds c → roomStated c ≡ true → writeVerdict c room ≡ byPlan (wellFormedCall c)
-  behind-tables rack stated = behind-rack rack ∙ ap byTables stated
-
-  behind-plan : RackHolds c → roomStated c ≡ true → wellFormedCall c ≡ true → writeVerdict c room ≡ bySpace (leb (length (textHeld c)) (length room))
-  behind-plan rack stated formed = behind-tables rack stated ∙ ap byPlan formed
+  abbrev byTables : Verdict ℕ
+  byTables = unless (roomStated c) 7 0 byPlan
 
   -- Refusal 1.
-  pub ends-rack : RackRefused c → Ends c room (refusedWith 1) room
-  ends-rack rack = ends c room (refused 1 0) (ap byRack rack)
+  pub refused-rack : rackAccepted (c .rack) ≡ false → writeVerdict c room ≡ refused 1 0
+  refused-rack rack = unless-refuses (rackAccepted (c .rack)) 1 0 byTables rack
 
-  -- Refusal 7.
-  pub ends-tables : RackHolds c → roomStated c ≡ false → Ends c room (refusedWith 7) room
-  ends-tables rack stated = ends c room (refused 7 0) (behind-rack rack ∙ ap byTables stated)
+  module _ (rack : rackAccepted (c .rack) ≡ true) where
+    -- Each test that holds leaves those behind it.
+    behind-rack : writeVerdict c room ≡ byTables
+    behind-rack = unless-passes (rackAccepted (c .rack)) 1 0 byTables rack
 
-  -- Refusal 10.
-  pub ends-plan : RackHolds c → roomStated c ≡ true → wellFormedCall c ≡ false → Ends c room (refusedWith 10) room
-  ends-plan rack stated formed = ends c room (refused 10 0) (behind-tables rack stated ∙ ap byPlan formed)
+    -- Refusal 7.
+    pub refused-tables : roomStated c ≡ false → writeVerdict c room ≡ refused 7 0
+    refused-tables stated = behind-rack ∙ unless-refuses (roomStated c) 7 0 byPlan stated
 
-  -- Refusal 11.
-  pub ends-space : RackHolds c → roomStated c ≡ true → wellFormedCall c ≡ true → length room < length (textHeld c) → Ends c room (refusedWith 11) room
-  ends-space rack stated formed short =
-      ends c room (refused 11 0) (behind-plan rack stated formed ∙ ap bySpace (lt-leb _ _ short))
+    module _ (stated : roomStated c ≡ true) where
+      behind-tables : writeVerdict c room ≡ byPlan
+      behind-tables = behind-rack ∙ unless-passes (roomStated c) 7 0 byPlan stated
 
-  -- The text is written.
-  pub ends-written : RackHolds c → roomStated c ≡ true → wellFormedCall c ≡ true → length (textHeld c) ≤ length room → Ends c room (record { refusal = 0; second = 0; length = length (textHeld c) }) (written (textHeld c) room)
-  ends-written rack stated formed fits =
-      ends c room planned (behind-plan rack stated formed ∙ ap bySpace (le-leb _ _ fits))
+      -- Refusal 10.
+      pub refused-plan : wellFormedCall c ≡ false → writeVerdict c room ≡ refused 10 0
+      refused-plan formed = behind-tables ∙ unless-refuses (wellFormedCall c) 10 0 bySpace formed
+
+      module _ (formed : wellFormedCall c ≡ true) where
+        behind-plan : writeVerdict c room ≡ bySpace
+        behind-plan = behind-tables ∙ unless-passes (wellFormedCall c) 10 0 bySpace formed
+
+        -- Refusal 11.
+        pub refused-space : length room < length (textHeld c) → writeVerdict c room ≡ refused 11 0
+        refused-space short = behind-plan ∙ unless-refuses _ 11 0 (given (length (textHeld c))) (lt-leb _ _ short)
+
+        -- The text is written.
+        pub given-text : length (textHeld c) ≤ length room → writeVerdict c room ≡ given (length (textHeld c))
+        given-text fits = behind-plan ∙ unless-passes _ 11 0 (given (length (textHeld c))) (le-leb _ _ fits)

@@ -1,16 +1,15 @@
--- 01's number and values for each case of `write`'s answer.
+-- 01's numbers for each case of `write`'s answer.
 use Prim.Native.Nat.{ℕ}
-use Rattle.plan_text.specs.WriteCall.{WriteNumbers}
-use Rattle.writer.specs.declared.Written.{Written}
-use Rattle.writer.specs.declared.Written.the-variants.{Length, RackOutOfRange, TablesTooShort, NotWellFormed, SpaceTooShort}
+use Rattle.refusal.specs.Verdict.{Verdict, given, Numbers}
+use Rattle.refusal.specs.Numbers.{refusalOf}
+use Rattle.plan_text.specs.WriteCall.{writeAnswer}
+use Rattle.writer.specs.declared.answer.Written.{Written}
+use Rattle.writer.specs.declared.answer.Written.the-variants.{Length, Refused}
 
--- A refusal: its number, and zero for the rest.
-abbrev pub refusedWith : ℕ → WriteNumbers
-refusedWith number = record { refusal = number; second = 0; length = 0 }
+-- An answer as a verdict: the text's length, or the refusal.
+abbrev pub writtenVerdict : Written → Verdict ℕ
+writtenVerdict (Length n) = given n
+writtenVerdict (Refused r) = refusalOf r
 
-abbrev pub numbersOf : Written → WriteNumbers
-numbersOf (Length n) = record { refusal = 0; second = 0; length = n }
-numbersOf RackOutOfRange = refusedWith 1
-numbersOf TablesTooShort = refusedWith 7
-numbersOf NotWellFormed = refusedWith 10
-numbersOf SpaceTooShort = refusedWith 11
+abbrev pub writtenNumbers : Written → Numbers ℕ
+writtenNumbers w = writeAnswer (writtenVerdict w)

@@ -1,31 +1,18 @@
--- A call of `write` as document 01's definitions see it.
-use Prim.Native.Nat.{ℕ, _*_, _≤_}
+-- What the steps of `write` judge of a call, and what they ask of it.
+use Prim.Native.Nat.{ℕ, _≤_}
 use mathlib.Core.Path.{_≡_}
 use mathlib.Core.Bool.{Bool, true, _&&_}
 use mathlib.Core.List.{List}
 use lib.ListN.{length}
-use Rattle.placement.specs.declared.Rack.{Rack}
-use Rattle.placement.specs.Rack.{rackOf}
+use Rattle.placement.specs.Rack.{Disk, allSlots}
 use Rattle.placement.specs.Held.{copiesFrom}
-use Rattle.plan_text.specs.Plan.{disksAccepted}
+use Rattle.placement.specs.Plan.{disksAccepted}
 use Rattle.plan_text.specs.Held.{unusedZeroFrom}
 use Rattle.plan_text.specs.WriteCall.{WriteCall, roomStated, wellFormedCall}
 
--- The rack's numbers, the tables' contents, and the stated number of left films.
-abbrev pub callOf : Rack → (films viewers counts leftFilms leftAmounts : List ℕ) → ℕ → WriteCall
-callOf rack films viewers counts leftFilms leftAmounts left = record {
-  disks = rack .disks;
-  slots = rack .slots .0;
-  streams = rack .streams .0;
-  tables = record { films = films; viewers = viewers; counts = counts; leftFilms = leftFilms; leftAmounts = leftAmounts };
-  left = left;
-}
-
 -- Every disk has zero entries behind at most k copies, and its copies are accepted.
-abbrev pub disksFormed : ℕ → ℕ → ℕ → (films viewers counts : List ℕ) → Bool
-disksFormed disks slots streams films viewers counts =
-    unusedZeroFrom (rackOf disks slots streams) films viewers counts
-    && disksAccepted slots streams (copiesFrom (rackOf disks slots streams) films viewers counts)
+abbrev pub disksFormed : List Disk → (copies counts : List ℕ) → Bool
+disksFormed rack copies counts = unusedZeroFrom rack copies counts && disksAccepted rack (copiesFrom rack copies counts)
 
 -- None of the refusals 1, 7 and 10 applies.
 pub record Writable (call : WriteCall) : Type 0 where
@@ -33,7 +20,6 @@ pub record Writable (call : WriteCall) : Type 0 where
   pub formed : wellFormedCall call ≡ true
 
 -- The copy table has a place for each slot, and the count table one for each disk.
-pub record CopyRoom (disks slots : ℕ) (films viewers counts : List ℕ) : Type 0 where
-  pub filmPlaces : disks * slots ≤ length films
-  pub viewerPlaces : disks * slots ≤ length viewers
-  pub countPlaces : disks ≤ length counts
+pub record CopyRoom (rack : List Disk) (copies counts : List ℕ) : Type 0 where
+  pub copyPlaces : allSlots rack ≤ length copies
+  pub countPlaces : length rack ≤ length counts

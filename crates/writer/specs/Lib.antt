@@ -1,5 +1,6 @@
 pub mod Space
 pub mod Call
+pub mod Shown
 pub mod RefusalPromise
 pub mod WritePromise
 pub mod Answers

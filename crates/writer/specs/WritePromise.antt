@@ -4,41 +4,34 @@ use mathlib.Core.Path.{_≡_}
 use mathlib.Core.Bool.{true, false}
 use mathlib.Core.List.{List}
 use lib.ListN.{length, take, drop}
+use Rattle.refusal.specs.Verdict.{Numbers}
 use Rattle.placement.specs.Rack.{rackAccepted}
 use Rattle.plan_text.specs.Text.{textOf}
 use Rattle.plan_text.specs.Accepted.{Accepted}
-use Rattle.plan_text.specs.WriteCall.{WriteCall, WriteNumbers, planOf, roomStated, wellFormedCall, writing, spaceAfter}
-
--- N, k or L is outside its range.
-abbrev pub RackRefused : WriteCall → Type 0
-RackRefused c = rackAccepted (c .disks) (c .slots) (c .streams) ≡ false
-
--- N, k and L are in range.
-abbrev pub RackHolds : WriteCall → Type 0
-RackHolds c = rackAccepted (c .disks) (c .slots) (c .streams) ≡ true
+use Rattle.plan_text.specs.WriteCall.{WriteCall, planOf, roomStated, wellFormedCall, writing, spaceAfter}
 
 -- The bytes of the plan's text.
 abbrev pub textHeld : WriteCall → List ℕ
 textHeld c = textOf (planOf c)
 
--- `entry` and `exit` are the bytes of the lent space before and after the call.
-pub record WritePromise (call : WriteCall) (entry exit : List ℕ) (answer : WriteNumbers) : Type 0 where
+-- `entry` and `exit` are the bytes of the lent space before and after the call; the answer's value is the text's length.
+pub record WritePromise (call : WriteCall) (entry exit : List ℕ) (answer : Numbers ℕ) : Type 0 where
   -- the answer and the bytes are those of the definition
   pub numbers : answer ≡ writing call entry
   pub bytes : exit ≡ spaceAfter call entry
   -- the first refusal that applies is given, and none otherwise
-  pub refusesRack : RackRefused call → answer .refusal ≡ 1
-  pub refusesTables : RackHolds call → roomStated call ≡ false → answer .refusal ≡ 7
-  pub refusesPlan : RackHolds call → roomStated call ≡ true → wellFormedCall call ≡ false → answer .refusal ≡ 10
-  pub refusesSpace : RackHolds call → roomStated call ≡ true → wellFormedCall call ≡ true → length entry < length (textHeld call) → answer .refusal ≡ 11
-  pub writes : RackHolds call → roomStated call ≡ true → wellFormedCall call ≡ true → length (textHeld call) ≤ length entry → answer .refusal ≡ 0
+  pub refusesRack : rackAccepted (call .rack) ≡ false → answer .refusal ≡ 1
+  pub refusesTables : rackAccepted (call .rack) ≡ true → roomStated call ≡ false → answer .refusal ≡ 7
+  pub refusesPlan : rackAccepted (call .rack) ≡ true → roomStated call ≡ true → wellFormedCall call ≡ false → answer .refusal ≡ 10
+  pub refusesSpace : rackAccepted (call .rack) ≡ true → roomStated call ≡ true → wellFormedCall call ≡ true → length entry < length (textHeld call) → answer .refusal ≡ 11
+  pub writes : rackAccepted (call .rack) ≡ true → roomStated call ≡ true → wellFormedCall call ≡ true → length (textHeld call) ≤ length entry → answer .refusal ≡ 0
   -- a refusal gives zero for the rest and changes no byte
   pub noSecond : answer .second ≡ 0
-  pub noLength : 1 ≤ answer .refusal → answer .length ≡ 0
+  pub noLength : 1 ≤ answer .refusal → answer .values ≡ 0
   pub noByte : 1 ≤ answer .refusal → exit ≡ entry
   -- without one the tables hold a well-formed plan, the first bytes are its text, and the bytes after the text are untouched
   pub formed : answer .refusal ≡ 0 → wellFormedCall call ≡ true
-  pub textLength : answer .refusal ≡ 0 → answer .length ≡ length (textHeld call)
-  pub text : answer .refusal ≡ 0 → take (answer .length) exit ≡ textHeld call
-  pub accepted : answer .refusal ≡ 0 → Accepted (take (answer .length) exit)
-  pub after : answer .refusal ≡ 0 → drop (answer .length) exit ≡ drop (answer .length) entry
+  pub textLength : answer .refusal ≡ 0 → answer .values ≡ length (textHeld call)
+  pub text : answer .refusal ≡ 0 → take (answer .values) exit ≡ textHeld call
+  pub accepted : answer .refusal ≡ 0 → Accepted (take (answer .values) exit)
+  pub after : answer .refusal ≡ 0 → drop (answer .values) exit ≡ drop (answer .values) entry

@@ -1,124 +1,71 @@
-// Whether the lent tables have the places that a call states, and whether they hold a well-formed plan.
+// Whether the lent tables hold a well-formed plan.
 use placement::Rack;
+use placement::Slots;
+use placement::Streams;
 use well_formed::all_zero;
 use well_formed::disk_accepted;
 use well_formed::left_accepted;
 ghost use mathlib.Core.Path.{_≡_};
 ghost use mathlib.Core.Bool.{true, _&&_};
-ghost use Prim.Native.Nat.{_*_, _≤_, min};
-ghost use lib.Dec.{leb};
-ghost use lib.ListN.{length, take};
-ghost use Rattle.placement.specs.Rack.{rackAccepted};
-ghost use Rattle.placement.specs.Held.{entries};
-ghost use Rattle.plan_text.specs.Plan.{diskAccepted};
+ghost use Prim.Native.Nat.{_≤_};
+ghost use lib.ListN.{length};
+ghost use Rattle.placement.specs.Rack.{disk, disksOf, rackAccepted};
+ghost use Rattle.placement.specs.Tables.{tables};
+ghost use Rattle.placement.specs.Held.{front};
+ghost use Rattle.placement.specs.Plan.{diskAccepted};
 ghost use Rattle.plan_text.specs.Held.{unusedZero};
-ghost use Rattle.plan_text.specs.WriteCall.{roomStated, wellFormedCall};
-ghost use Rattle.writer.specs.Call.{callOf, disksFormed, CopyRoom};
-
-// Whether two slices both have the places.
-fn has_places(places: usize, first: usize, second: usize) -> bool
-    ensures { λ r. ⌜ r ≡ leb places (min first second) ⌝ }
-{
-    if first < places {
-        return false;
-    }
-    places <= second
-}
-
-// Whether the tables are as long as the rack and the stated number of left films ask.
-pub(crate) fn room_stated(
-    rack: Rack,
-    films: &[u32],
-    viewers: &[u32],
-    counts: &[u32],
-    leftfilms: &[u32],
-    leftamounts: &[u32],
-    left: u32,
-) -> bool
-    requires { ⌜ rackAccepted (rack .disks) (rack .slots .0) (rack .streams .0) ≡ true ⌝ }
-    ensures { λ r. ⌜ r
-        ≡ roomStated
-        (callOf rack (now (films .entry)) (now (viewers .entry)) (now (counts .entry)) (now (leftfilms .entry)) (now (leftamounts .entry)) left) ⌝ }
-{
-    let disks = rack.disks as usize;
-    let slots = rack.slots.0 as usize;
-    if !has_places(disks * slots, films.len(), viewers.len()) {
-        return false;
-    }
-    if counts.len() < disks {
-        return false;
-    }
-    has_places(left as usize, leftfilms.len(), leftamounts.len())
-}
+ghost use Rattle.plan_text.specs.WriteCall.{writeCall, roomStated, wellFormedCall};
+ghost use Rattle.writer.specs.Call.{disksFormed, CopyRoom};
 
 // Whether one disk's places hold at most as many copies as slots, accepted ones, and zero entries behind them.
-fn disk_formed(slots: u32, streams: u32, count: u32, films: &[u32], viewers: &[u32]) -> bool
-    requires { ⌜ (slots ≤ length (now films)) × (slots ≤ length (now viewers)) ⌝ }
+fn disk_formed(slots: Slots, streams: Streams, count: u32, places: &[u64]) -> bool
+    requires { ⌜ slots .0 ≤ length (now places) ⌝ }
     ensures { λ r. ⌜ r
-        ≡ (unusedZero slots count (now (films .entry)) (now (viewers .entry)) && diskAccepted slots streams (entries (take count (now (films .entry))) (take count (now (viewers .entry))))) ⌝ }
+        ≡ (unusedZero (slots .0) count (now (places .entry)) && diskAccepted (disk (slots .0) (streams .0)) (front count (now (places .entry)))) ⌝ }
 {
-    if slots < count {
+    let most = slots.0;
+    if most < count {
         return false;
     }
     let used = count as usize;
-    let places = slots as usize;
-    if !all_zero(&films[used..places]) {
+    let end = most as usize;
+    if !all_zero(&places[used..end]) {
         return false;
     }
-    if !all_zero(&viewers[used..places]) {
-        return false;
-    }
-    disk_accepted(slots, streams, &films[..used], &viewers[..used])
+    disk_accepted(slots, streams, &places[..used])
 }
 
 // Whether every disk is formed: the disks from one on give the answer for all.
-fn disks_formed(rack: Rack, films: &[u32], viewers: &[u32], counts: &[u32]) -> bool
-    requires { ⌜ rackAccepted (rack .disks) (rack .slots .0) (rack .streams .0) ≡ true ⌝ }
-    requires { ⌜ CopyRoom (rack .disks) (rack .slots .0) (now films) (now viewers) (now counts) ⌝ }
-    ensures { λ r. ⌜ r
-        ≡ disksFormed (rack .disks) (rack .slots .0) (rack .streams .0) (now (films .entry)) (now (viewers .entry))
-        (now (counts .entry)) ⌝ }
+fn disks_formed(rack: Rack, copies: &[u64], counts: &[u32]) -> bool
+    requires { ⌜ CopyRoom (disksOf rack) (now copies) (now counts) ⌝ }
+    ensures { λ r. ⌜ r ≡ disksFormed (disksOf rack) (now (copies .entry)) (now (counts .entry)) ⌝ }
 {
     let disks = rack.disks as usize;
-    let slots = rack.slots.0;
-    let streams = rack.streams.0;
-    let places = slots as usize;
+    let slots = rack.slots;
+    let streams = rack.streams;
+    let places = slots.0 as usize;
+    let mut first = 0;
     let mut d = 0;
     while d < disks {
-        let first = d * places;
-        if !disk_formed(
-            slots,
-            streams,
-            counts[d],
-            &films[first..],
-            &viewers[first..],
-        ) {
+        if !disk_formed(slots, streams, counts[d], &copies[first..]) {
             return false;
         }
+        first += places;
         d += 1;
     }
     true
 }
 
 // Whether the tables hold a well-formed plan: the disks, then what is left.
-pub(crate) fn formed(
-    rack: Rack,
-    films: &[u32],
-    viewers: &[u32],
-    counts: &[u32],
-    leftfilms: &[u32],
-    leftamounts: &[u32],
-    left: u32,
-) -> bool
-    requires { ⌜ rackAccepted (rack .disks) (rack .slots .0) (rack .streams .0) ≡ true ⌝ }
-    requires { ⌜ roomStated (callOf rack (now films) (now viewers) (now counts) (now leftfilms) (now leftamounts) left) ≡ true ⌝ }
+pub(crate) fn formed(rack: Rack, copies: &[u64], counts: &[u32], left: &[u64], films: u32) -> bool
+    requires { ⌜ rackAccepted (disksOf rack) ≡ true ⌝ }
+    requires { ⌜ roomStated (writeCall (disksOf rack) (tables (now copies) (now counts) (now left)) films) ≡ true ⌝ }
     ensures { λ r. ⌜ r
-        ≡ wellFormedCall
-        (callOf rack (now (films .entry)) (now (viewers .entry)) (now (counts .entry)) (now (leftfilms .entry)) (now (leftamounts .entry)) left) ⌝ }
+        ≡ wellFormedCall (writeCall (disksOf rack) (tables (now (copies .entry)) (now (counts .entry)) (now (left .entry))) films) ⌝ }
 {
-    if !disks_formed(rack, films, viewers, counts) {
+    if !disks_formed(rack, copies, counts) {
         return false;
     }
-    let stated = left as usize;
-    left_accepted(&leftfilms[..stated], &leftamounts[..stated])
+    let stated = films as usize;
+    left_accepted(&left[..stated])
 }

@@ -1,67 +1,50 @@
 // The writer of plan texts: from the lent tables to bytes in the lent space.
-mod judge;
-mod line;
-mod number;
-mod refusal;
-mod text;
+mod answer; // answer.rt: what writing answers
+mod judge; // judge.rt: whether the tables hold a well-formed plan
+mod line; // line.rt: the pairs and lines of a text
+mod number; // number.rt: bytes, words and decimal numbers
+mod refusal_line; // refusal_line.rt: the line of a refusal
+mod text; // text.rt: the whole text of a plan
 
 use crate::judge::formed;
-use crate::judge::room_stated;
 use crate::text::put_text;
 use crate::text::text_length;
+pub use answer::Written;
 use placement::Rack;
-use placement::accepted;
-pub use refusal::write_refusal;
-ghost use Rattle.writer.specs.Answers.{numbersOf};
-ghost use Rattle.writer.specs.Call.{callOf};
+use refusal::Refusal;
+pub use refusal_line::write_refusal;
+ghost use Rattle.placement.specs.Rack.{disksOf};
+ghost use Rattle.placement.specs.Tables.{tables};
+ghost use Rattle.plan_text.specs.WriteCall.{writeCall};
+ghost use Rattle.writer.specs.Answers.{writtenNumbers};
 ghost use Rattle.writer.specs.WritePromise.{WritePromise};
-
-// What writing answers: the length of the text, or why it declines. specs/Answers.antt gives 01's number for each case.
-pub enum Written {
-    Length(u64),
-    RackOutOfRange,
-    TablesTooShort,
-    NotWellFormed,
-    SpaceTooShort,
-}
 
 // Writes the text of the plan held to the lent space. Every refusal is judged, and the length known, before the first byte.
 pub fn write(
     rack: Rack,
-    films: &[u32],
-    viewers: &[u32],
+    copies: &[u64],
     counts: &[u32],
-    leftfilms: &[u32],
-    leftamounts: &[u32],
-    left: u32,
+    left: &[u64],
+    films: u32,
     text: &mut [u8],
 ) -> Written
     ensures { λ r. ⌜ WritePromise
-        (callOf rack (now (films .entry)) (now (viewers .entry)) (now (counts .entry)) (now (leftfilms .entry)) (now (leftamounts .entry)) left)
-        (now (text .entry)) (now (text .exit)) (numbersOf r) ⌝ }
+        (writeCall (disksOf rack) (tables (now (copies .entry)) (now (counts .entry)) (now (left .entry))) films)
+        (now (text .entry)) (now (text .exit)) (writtenNumbers r) ⌝ }
 {
-    if !accepted(rack) {
-        return Written::RackOutOfRange;
+    if !placement::accepted(rack) {
+        return Written::Refused(Refusal::RackOutOfRange);
     }
-    if !room_stated(rack, films, viewers, counts, leftfilms, leftamounts, left) {
-        return Written::TablesTooShort;
+    if !placement::room(rack, films as usize, copies.len(), counts.len(), left.len()) {
+        return Written::Refused(Refusal::TablesTooShort);
     }
-    if !formed(rack, films, viewers, counts, leftfilms, leftamounts, left) {
-        return Written::NotWellFormed;
+    if !formed(rack, copies, counts, left, films) {
+        return Written::Refused(Refusal::NotWellFormed);
     }
-    let length = text_length(rack, films, viewers, counts, leftfilms, leftamounts, left);
+    let length = text_length(rack, copies, counts, left, films);
     if text.len() < length {
-        return Written::SpaceTooShort;
+        return Written::Refused(Refusal::SpaceTooShort);
     }
-    put_text(
-        text,
-        rack,
-        films,
-        viewers,
-        counts,
-        leftfilms,
-        leftamounts,
-        left,
-    );
+    put_text(text, rack, copies, counts, left, films);
     Written::Length(length as u64)
 }

@@ -1,17 +1,14 @@
 // Bytes, words and decimal numbers, stored one after the other where the space has the place.
 ghost use mathlib.Core.List.{[], _∷_};
-ghost use Prim.Native.Nat.{_+_, _^_, _<_};
-ghost use lib.ListN.{length};
 ghost use Rattle.plan_text.specs.Decimal.{decimal};
 ghost use Rattle.writer.specs.Space.{Put};
 
 // Stores one byte and answers the next place.
 pub(crate) fn put_byte(out: &mut [u8], at: usize, byte: u8) -> usize
-    requires { ⌜ at + 1 < 2 ^ 64 ⌝ }
     ensures { λ next. ⌜ Put at (byte ∷ []) (now (out .entry)) (now (out .exit)) next ⌝ }
 {
     if out.len() <= at {
-        return at + 1;
+        return std::num::wrapping_add_usize(at, 1);
     }
     out[at] = byte;
     at + 1
@@ -19,7 +16,6 @@ pub(crate) fn put_byte(out: &mut [u8], at: usize, byte: u8) -> usize
 
 // Stores the bytes of a word: what is left of the word gives the whole.
 pub(crate) fn put_word(out: &mut [u8], at: usize, word: &[u8]) -> usize
-    requires { ⌜ at + length (now word) < 2 ^ 64 ⌝ }
     ensures { λ next. ⌜ Put at (now (word .entry)) (now (out .entry)) (now (out .exit)) next ⌝ }
 {
     let mut next = at;
@@ -33,7 +29,6 @@ pub(crate) fn put_word(out: &mut [u8], at: usize, word: &[u8]) -> usize
 
 // Stores a number in decimal: the digits of its tenth, then its last digit.
 pub(crate) fn put_number(out: &mut [u8], at: usize, number: u64) -> usize
-    requires { ⌜ at + length (decimal number) < 2 ^ 64 ⌝ }
     ensures { λ next. ⌜ Put at (decimal number) (now (out .entry)) (now (out .exit)) next ⌝ }
 {
     if number < 10 {

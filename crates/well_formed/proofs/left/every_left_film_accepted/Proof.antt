@@ -1,70 +1,40 @@
 -- `well_formed::every_left_film_accepted` meets its contract. The invariant: the left films not yet passed give the answer for all.
 use mathlib.Core.Path.{_≡_, sym, ap, _∙_}
+use mathlib.Core.List.{map}
 use Prim.Native.Nat.{_-_}
 use borrow.Author.Needs.{needs}
 use borrow.Author.Tests.{not-true, not-false}
-use lib.ListN.{drop}
-use Rattle.placement.specs.Held.{entries}
-use Rattle.plan_text.specs.Plan.{every, leftFilmAccepted}
-use Rattle.well_formed.proofs.Entries.{drop-behind, every-passes, every-fails}
+use lib.ListN.{length, drop, drop-of-length-le}
+use Rattle.placement.specs.Tables.{itemIn}
+use Rattle.placement.specs.Plan.{every, leftFilmAccepted}
+use Rattle.well_formed.proofs.Walks.{everyWalk, passes, fails}
 use Rattle.well_formed.proofs.left.every_left_film_accepted.Statement.{statement}
 use Rattle.well_formed.proofs.left.every_left_film_accepted.Tie as tie
 
 abbrev Inv-loop : tie.InvT-loop
-Inv-loop films amounts n i₀ i = every leftFilmAccepted (entries films amounts) ≡ every leftFilmAccepted (drop i (entries films amounts))
+Inv-loop left i₀ i = every leftFilmAccepted (map itemIn left) ≡ every leftFilmAccepted (map itemIn (drop i left))
 
 abbrev μ-loop : tie.MeasureT-loop
-μ-loop films amounts n i₀ i = n - i
+μ-loop left i₀ i = length left - i
 
-count-requires : tie.Need-count-requires Inv-loop μ-loop
-count-requires c κs = search needs
-
-loop-holds : tie.Need-loop-holds Inv-loop μ-loop
-loop-holds c = search needs
-
-mul-left-film-accepted : tie.Need-mul-left-film-accepted Inv-loop μ-loop
-mul-left-film-accepted c = search needs
-
-shared-slice-read-left-film-accepted : tie.Need-shared-slice-read-left-film-accepted Inv-loop μ-loop
+shared-slice-read-left-film-accepted :
+    tie.Need-shared-slice-read-left-film-accepted Inv-loop μ-loop
 shared-slice-read-left-film-accepted c = search needs
-
-mul-left-film-accepted-2 : tie.Need-mul-left-film-accepted-2 Inv-loop μ-loop
-mul-left-film-accepted-2 c = search needs
-
-shared-slice-read-left-film-accepted-2 : tie.Need-shared-slice-read-left-film-accepted-2 Inv-loop μ-loop
-shared-slice-read-left-film-accepted-2 c = search needs
-
-left-film-accepted-requires : tie.Need-left-film-accepted-requires Inv-loop μ-loop
-left-film-accepted-requires c κs = search needs
 
 returns : tie.Need-returns Inv-loop μ-loop
 returns c =
-    let at-turn = c .before .before .before .before in
-    let at-loop = at-turn .before in
-    sym
-    (at-loop .loop .inv
-    ∙ every-fails leftFilmAccepted (at-loop .before .count .ensures) (at-turn .loop-test .taken)
-    (sym (c .before .left-film-accepted .ensures) ∙ not-true _ (c .if1 .taken)))
-
-add-i : tie.Need-add-i Inv-loop μ-loop
-add-i c = search needs
-
-loop-less : tie.Need-loop-less Inv-loop μ-loop
-loop-less c = search needs
+    let at-turn = c .before .before .before in
+    fails (everyWalk leftFilmAccepted) _ _ (at-turn .loop-test .taken) (sym (c .before .left-film-accepted .ensures) ∙ not-true _ (c .if1 .taken))
+    ∙ sym (at-turn .before .loop .inv)
 
 loop-again : tie.Need-loop-again Inv-loop μ-loop
 loop-again c =
-    let at-turn = c .before .before .before .before in
-    let at-loop = at-turn .before in
-    at-loop .loop .inv
-    ∙ every-passes leftFilmAccepted (at-loop .before .count .ensures) (at-turn .loop-test .taken)
-    (sym (c .before .left-film-accepted .ensures) ∙ not-false _ (c .if1 .left))
+    let at-turn = c .before .before .before in
+    at-turn .before .loop .inv
+    ∙ passes (everyWalk leftFilmAccepted) _ _ (at-turn .loop-test .taken) (sym (c .before .left-film-accepted .ensures) ∙ not-false _ (c .if1 .left))
 
 returns-2 : tie.Need-returns-2 Inv-loop μ-loop
-returns-2 c =
-    sym
-    (c .before .loop .inv
-    ∙ ap (every leftFilmAccepted) (drop-behind (c .before .before .count .ensures) (c .loop-test .left)))
+returns-2 c = sym (c .before .loop .inv ∙ ap (everyWalk leftFilmAccepted .whole) (drop-of-length-le _ (c .loop-test .left)))
 
 pub every-left-film-accepted-spec : {M : Type 1} → statement M
 every-left-film-accepted-spec =
@@ -72,15 +42,12 @@ every-left-film-accepted-spec =
     (tie.spec
     Inv-loop
     μ-loop
-    count-requires
-    loop-holds
-    mul-left-film-accepted
+    (λ c. search needs)
+    (λ c. search needs)
     shared-slice-read-left-film-accepted
-    mul-left-film-accepted-2
-    shared-slice-read-left-film-accepted-2
-    left-film-accepted-requires
+    (λ c κs. search needs)
     returns
-    add-i
-    loop-less
+    (λ c. search needs)
+    (λ c. search needs)
     loop-again
     returns-2)

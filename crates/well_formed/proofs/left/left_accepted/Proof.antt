@@ -1,48 +1,51 @@
 -- `well_formed::left_accepted` meets its contract: the tests are those of `leftAccepted`, in its order.
-use mathlib.Core.Path.{refl, sym, _∙_}
-use native.Mathlib.Omega.{arith}
+use mathlib.Core.Path.{sym, _∙_}
+use mathlib.Core.Bool.{Bool, _&&_}
+use mathlib.Core.List.{List, map}
+use Prim.Native.Nat.{ℕ}
 use borrow.Author.Needs.{needs}
 use borrow.Author.Tests.{not-true, not-false}
-use Rattle.well_formed.proofs.Conjunction.{first-holds, first-fails}
-use Rattle.well_formed.proofs.Entries.{few-enough, too-many}
+use lib.Dec.{leb}
+use lib.ListN.{length}
+use Rattle.placement.specs.Tables.{itemIn}
+use Rattle.placement.specs.Plan.{every, ascendingAbove, leftFilmAccepted, mostLeft}
+use Rattle.placement.proofs.Conjunctions.{first-fails, second-fails, third-decides}
+use Rattle.well_formed.proofs.Sums.{few-enough, too-many}
 use Rattle.well_formed.proofs.left.left_accepted.Statement.{statement}
 use Rattle.well_formed.proofs.left.left_accepted.Tie as tie
 
-count-requires : tie.Need-count-requires
-count-requires c κs = search needs
+-- The tests, each of a table's entries.
+abbrev few : List ℕ → Bool
+few left = leb (length (map itemIn left)) mostLeft
+
+abbrev ascend : List ℕ → Bool
+ascend left = ascendingAbove 0 (map itemIn left)
+
+abbrev in-range : List ℕ → Bool
+in-range left = every leftFilmAccepted (map itemIn left)
 
 returns : tie.Need-returns
-returns c = sym (first-fails _ _ refl (too-many (c .before .count .ensures) (omega arith)))
-
-films-ascend-requires : tie.Need-films-ascend-requires
-films-ascend-requires c κs = search needs
+returns c =
+    let left = c .before .before .args .left .now in
+    first-fails (few left) (ascend left && in-range left) (too-many left mostLeft (c .if1 .taken))
 
 returns-2 : tie.Need-returns-2
 returns-2 c =
-    let at-else = c .before .before in
-    sym
-    (first-holds _ _ refl (few-enough (at-else .before .count .ensures) (omega arith))
-    ∙ first-fails _ _ refl (sym (c .before .films-ascend .ensures) ∙ not-true _ (c .if2 .taken)))
-
-every-left-film-accepted-requires : tie.Need-every-left-film-accepted-requires
-every-left-film-accepted-requires c κs = search needs
+    let at-few = c .before .before in
+    let left = at-few .before .before .args .left .now in
+    second-fails (few left) (ascend left) (in-range left) (few-enough left mostLeft (at-few .if1 .left))
+    (sym (c .before .films-ascend .ensures) ∙ not-true _ (c .if2 .taken))
 
 returns-3 : tie.Need-returns-3
 returns-3 c =
     let at-ascend = c .before .before in
-    let at-else = at-ascend .before in
+    let at-few = at-ascend .before in
+    let left = at-few .before .before .args .left .now in
     c .every-left-film-accepted .ensures
-    ∙ sym
-    (first-holds _ _ refl (few-enough (at-else .before .count .ensures) (omega arith))
-    ∙ first-holds _ _ refl (sym (at-ascend .films-ascend .ensures) ∙ not-false _ (c .before .if2 .left)))
+    ∙ third-decides (few left) (ascend left) (in-range left) (few-enough left mostLeft (at-few .if1 .left))
+    (sym (at-ascend .films-ascend .ensures) ∙ not-false _ (c .before .if2 .left))
 
 pub left-accepted-spec : {M : Type 1} → statement M
 left-accepted-spec =
     tie.close
-    (tie.spec
-    count-requires
-    returns
-    films-ascend-requires
-    returns-2
-    every-left-film-accepted-requires
-    returns-3)
+    (tie.spec returns (λ c κs. search needs) returns-2 (λ c κs. search needs) returns-3)

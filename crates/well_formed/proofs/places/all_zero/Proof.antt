@@ -3,9 +3,10 @@ use mathlib.Core.Path.{_≡_, refl, sym, ap, _∙_}
 use Prim.Native.Nat.{_-_}
 use native.Mathlib.Omega.{arith}
 use borrow.Author.Needs.{needs}
-use lib.ListN.{length, drop, drop-of-length-le}
+use borrow.Author.Tests.{eq-eqb, ne-eqb}
+use lib.ListN.{length, getD, drop, drop-of-length-le}
 use Rattle.plan_text.specs.Held.{allZero}
-use Rattle.well_formed.proofs.Zeros.{allZero-passes, allZero-fails}
+use Rattle.well_formed.proofs.Walks.{zeroWalk, passes, fails}
 use Rattle.well_formed.proofs.places.all_zero.Statement.{statement}
 use Rattle.well_formed.proofs.places.all_zero.Tie as tie
 
@@ -18,31 +19,22 @@ abbrev μ-loop : tie.MeasureT-loop
 loop-holds : tie.Need-loop-holds Inv-loop μ-loop
 loop-holds c = refl
 
-mul-if1 : tie.Need-mul-if1 Inv-loop μ-loop
-mul-if1 c = search needs
-
-shared-slice-read-if1 : tie.Need-shared-slice-read-if1 Inv-loop μ-loop
-shared-slice-read-if1 c = search needs
-
 returns : tie.Need-returns Inv-loop μ-loop
 returns c =
     let at-turn = c .before .before in
-    sym (at-turn .before .loop .inv ∙ allZero-fails _ _ (at-turn .loop-test .taken) (λ zero. c .if1 .taken (omega arith)))
-
-add-i : tie.Need-add-i Inv-loop μ-loop
-add-i c = search needs
-
-loop-less : tie.Need-loop-less Inv-loop μ-loop
-loop-less c = search needs
+    let at-loop = at-turn .before in
+    let place = getD (at-loop .before .args .places .now) (at-loop .loop .i) 0 in
+    fails zeroWalk _ _ (at-turn .loop-test .taken) (ne-eqb place 0 (λ zero. c .if1 .taken (omega arith))) ∙ sym (at-loop .loop .inv)
 
 loop-again : tie.Need-loop-again Inv-loop μ-loop
 loop-again c =
     let at-turn = c .before .before in
-    at-turn .before .loop .inv ∙ allZero-passes _ _ (at-turn .loop-test .taken) (omega arith)
+    let at-loop = at-turn .before in
+    let place = getD (at-loop .before .args .places .now) (at-loop .loop .i) 0 in
+    at-loop .loop .inv ∙ passes zeroWalk _ _ (at-turn .loop-test .taken) (eq-eqb place 0 (omega arith))
 
 returns-2 : tie.Need-returns-2 Inv-loop μ-loop
-returns-2 c =
-    sym (c .before .loop .inv ∙ ap allZero (drop-of-length-le _ (c .loop-test .left)))
+returns-2 c = sym (c .before .loop .inv ∙ ap allZero (drop-of-length-le _ (c .loop-test .left)))
 
 pub all-zero-spec : {M : Type 1} → statement M
 all-zero-spec =
@@ -51,10 +43,10 @@ all-zero-spec =
     Inv-loop
     μ-loop
     loop-holds
-    mul-if1
-    shared-slice-read-if1
+    (λ c. search needs)
+    (λ c. search needs)
     returns
-    add-i
-    loop-less
+    (λ c. search needs)
+    (λ c. search needs)
     loop-again
     returns-2)

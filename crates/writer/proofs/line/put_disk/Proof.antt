@@ -1,53 +1,34 @@
 -- `line::put_disk` meets its contract: four runs, one behind the other.
 use borrow.Author.Needs.{needs}
-use native.Mathlib.Omega.{arith}
-use Rattle.placement.specs.Held.{entries}
-use Rattle.writer.proofs.Spaces.{put-as, put-then, put-length}
-use Rattle.writer.proofs.Texts.{disk-runs, disk-length}
+use mathlib.Core.List.{map}
+use Rattle.placement.specs.Tables.{itemIn}
+use Rattle.writer.proofs.Spaces.{put-as, put-then}
+use Rattle.writer.proofs.Runs.{disk-runs}
 use Rattle.writer.proofs.line.put_disk.Statement.{statement}
 use Rattle.writer.proofs.line.put_disk.Tie as tie
 
-slice-aggregate-put-word : tie.Need-slice-aggregate-put-word
-slice-aggregate-put-word c = search needs
-
-put-word-requires : tie.Need-put-word-requires
-put-word-requires c κs = search needs
-
-put-number-requires : tie.Need-put-number-requires
-put-number-requires c κs =
-    let start = c .before .before .before .before .before .before .before .before .before in
-    omega (arith, disk-length (start .args .number) (entries (start .args .films .now) (start .args .viewers .now)))
-
-put-pairs-requires : tie.Need-put-pairs-requires
-put-pairs-requires c κs =
-    let start = c .before .before .before .before .before .before .before .before .before .before .before .before .before in
-    (start .pre .0, omega (arith, start .pre .1, disk-length (start .args .number) (entries (start .args .films .now) (start .args .viewers .now))))
-
-put-byte-requires : tie.Need-put-byte-requires
-put-byte-requires c κs =
-    let start = c .before .before .before .before .before .before .before .before .before .before .before .before .before .before .before .before .before in
-    omega (arith, disk-length (start .args .number) (entries (start .args .films .now) (start .args .viewers .now)))
-
 returns : tie.Need-returns
 returns c =
-    let start = c .before .before .before .before .before .before .before .before .before .before .before .before .before .before .before .before .before .before .before .before in
-    put-as (disk-runs (start .args .number) (entries (start .args .films .now) (start .args .viewers .now)))
-    (put-then (c .before .before .before .before .before .before .before .before .before .before .before .before .before .before .put-word .ensures)
-    (put-then (c .before .before .before .before .before .before .before .before .before .before .put-number .ensures)
-    (put-then (c .before .before .before .before .before .before .put-pairs .ensures)
-    (c .before .before .put-byte .ensures))))
+    let at-feed = c .before .before in
+    let at-pairs = at-feed .before .before .before .before in
+    let at-number = at-pairs .before .before .before .before in
+    let at-word = at-number .before .before .before .before in
+    let a = at-word .before .before .before .before .before .args in
+    put-as (disk-runs (a .number) (map itemIn (a .copies .now)))
+    (put-then (at-word .put-word .ensures)
+    (put-then (at-number .put-number .ensures) (put-then (at-pairs .put-pairs .ensures) (at-feed .put-byte .ensures))))
 
 same-length : tie.Need-same-length
-same-length c = put-length (returns c)
+same-length c = returns c .same
 
 pub put-disk-spec : {M : Type 1} → statement M
 put-disk-spec =
     tie.close
     (tie.spec
-    slice-aggregate-put-word
-    put-word-requires
-    put-number-requires
-    put-pairs-requires
-    put-byte-requires
+    (λ c. search needs)
+    (λ c κs. search needs)
+    (λ c κs. search needs)
+    (λ c κs. search needs)
+    (λ c κs. search needs)
     same-length
     returns)

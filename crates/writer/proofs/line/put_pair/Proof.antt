@@ -1,25 +1,36 @@
 -- `line::put_pair` meets its contract: a space and an opening bracket, then the two numbers.
 use borrow.Author.Needs.{needs}
-use Rattle.writer.proofs.Spaces.{put-then}
+use mathlib.Core.Path.{ap₂}
+use mathlib.Core.List.{_∷_}
+use Prim.Native.Nat.{ℕ}
+use Rattle.placement.specs.Items.{item}
+use Rattle.plan_text.specs.Text.{space, pairText}
+use Rattle.writer.proofs.Spaces.{put-as, put-then}
 use Rattle.writer.proofs.line.put_pair.Statement.{statement}
 use Rattle.writer.proofs.line.put_pair.Tie as tie
 
-slice-aggregate-put-word : tie.Need-slice-aggregate-put-word
-slice-aggregate-put-word c = search needs
-
-put-word-requires : tie.Need-put-word-requires
-put-word-requires c κs = search needs
-
-put-two-requires : tie.Need-put-two-requires
-put-two-requires c κs = search needs
+returns : tie.Need-returns
+returns c =
+    let at-two = c .before .before in
+    let at-word = at-two .before .before .before .before in
+    let at-amount = at-word .before .before .before in
+    put-as
+    (ap₂ (λ (film amount : ℕ). space ∷ pairText (item film amount)) (at-amount .before .entry-film .ensures) (at-amount .entry-amount .ensures))
+    (put-then (at-word .put-word .ensures) (at-two .put-two .ensures))
 
 same-length : tie.Need-same-length
-same-length c = search needs
-
-returns : tie.Need-returns
-returns c = put-then (c .before .before .before .before .before .before .put-word .ensures) (c .before .before .put-two .ensures)
+same-length c = returns c .same
 
 pub put-pair-spec : {M : Type 1} → statement M
 put-pair-spec =
     tie.close
-    (tie.spec slice-aggregate-put-word put-word-requires put-two-requires same-length returns)
+    (tie.spec
+    (λ c κs. search needs)
+    (λ c κs. search needs)
+    (λ c. search needs)
+    (λ c κs. search needs)
+    (λ c. search needs)
+    (λ c. search needs)
+    (λ c κs. search needs)
+    same-length
+    returns)

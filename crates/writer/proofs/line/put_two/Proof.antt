@@ -1,47 +1,28 @@
 -- `line::put_two` meets its contract: four runs, one behind the other.
-use native.Mathlib.Omega.{arith}
-use Rattle.writer.proofs.Spaces.{put-then, put-length}
-use Rattle.writer.proofs.Texts.{two-length}
+use borrow.Author.Needs.{needs}
+use Rattle.writer.proofs.Spaces.{put-then}
 use Rattle.writer.proofs.line.put_two.Statement.{statement}
 use Rattle.writer.proofs.line.put_two.Tie as tie
 
-put-number-requires : tie.Need-put-number-requires
-put-number-requires c κs =
-    let start = c .before .before in
-    omega (arith, two-length (start .args .first) (start .args .second))
-
-put-byte-requires : tie.Need-put-byte-requires
-put-byte-requires c κs =
-    let start = c .before .before .before .before .before .before in
-    omega (arith, two-length (start .args .first) (start .args .second))
-
-put-number-requires-2 : tie.Need-put-number-requires-2
-put-number-requires-2 c κs =
-    let start = c .before .before .before .before .before .before .before .before .before .before in
-    omega (arith, two-length (start .args .first) (start .args .second))
-
-put-byte-requires-2 : tie.Need-put-byte-requires-2
-put-byte-requires-2 c κs =
-    let start = c .before .before .before .before .before .before .before .before .before .before .before .before .before .before in
-    omega (arith, two-length (start .args .first) (start .args .second))
-
 returns : tie.Need-returns
 returns c =
-    put-then (c .before .before .before .before .before .before .before .before .before .before .before .before .before .before .put-number .ensures)
-    (put-then (c .before .before .before .before .before .before .before .before .before .before .put-byte .ensures)
-    (put-then (c .before .before .before .before .before .before .put-number2 .ensures)
-    (c .before .before .put-byte2 .ensures)))
+    let at-bracket = c .before .before in
+    let at-second = at-bracket .before .before .before .before in
+    let at-space = at-second .before .before .before .before in
+    let at-first = at-space .before .before .before .before in
+    put-then (at-first .put-number .ensures)
+    (put-then (at-space .put-byte .ensures) (put-then (at-second .put-number2 .ensures) (at-bracket .put-byte2 .ensures)))
 
 same-length : tie.Need-same-length
-same-length c = put-length (returns c)
+same-length c = returns c .same
 
 pub put-two-spec : {M : Type 1} → statement M
 put-two-spec =
     tie.close
     (tie.spec
-    put-number-requires
-    put-byte-requires
-    put-number-requires-2
-    put-byte-requires-2
+    (λ c κs. search needs)
+    (λ c κs. search needs)
+    (λ c κs. search needs)
+    (λ c κs. search needs)
     same-length
     returns)

@@ -1,28 +1,22 @@
 -- `number::put_byte` meets its contract: a store past the end of a list changes nothing.
 use borrow.Author.Needs.{needs}
+use native.Mathlib.Omega.{arith}
 use mathlib.Core.Path.{refl, sym}
 use lib.Seq.{set-out}
 use Rattle.writer.proofs.number.put_byte.Statement.{statement}
 use Rattle.writer.proofs.number.put_byte.Tie as tie
 
-add-result : tie.Need-add-result
-add-result c = search needs
-
 returns : tie.Need-returns
-returns c = record { held = sym (set-out _ _ _ (c .if1 .taken)); behind = refl }
-
-slice-write-out : tie.Need-slice-write-out
-slice-write-out c = search needs
-
-add-result-2 : tie.Need-add-result-2
-add-result-2 c = search needs
-
-same-length : tie.Need-same-length
-same-length c = search needs
-
-returns-2 : tie.Need-returns-2
-returns-2 c = search needs
+returns c =
+    record {
+      same = refl;
+      stored = λ few. record {
+        held = sym (set-out _ _ _ (c .before .if1 .taken));
+        behind = omega (arith, few, c .wrapping-add-usize .ensures);
+      };
+    }
 
 pub put-byte-spec : {M : Type 1} → statement M
 put-byte-spec =
-    tie.close (tie.spec add-result returns slice-write-out add-result-2 same-length returns-2)
+    tie.close
+    (tie.spec (λ c κs. search needs) returns (λ c. search needs) (λ c. search needs) (λ c. search needs) (λ c. search needs))

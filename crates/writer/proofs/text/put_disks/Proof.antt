@@ -1,52 +1,80 @@
 -- `text::put_disks` meets its contract: the lines from disk `d` on, stored from `next` on, give the whole.
 use borrow.Author.Needs.{needs}
-use mathlib.Core.Path.{refl, sym, _∙_}
+use mathlib.Core.Path.{_≡_, ap}
+use mathlib.Core.List.{List}
+use Prim.Native.Nat.{ℕ, _+_, _-_, _≤_, _<_}
 use native.Mathlib.Omega.{arith}
-use Rattle.writer.proofs.Spaces.{rest-start, rest-as, rest-step, rest-done, put-length}
-use Rattle.writer.proofs.Lists.{part-length}
-use Rattle.writer.proofs.DiskLines.{lines-start, lines-next, lines-next-length, lines-end}
+use lib.ListN.{length, getD, drop}
+use Rattle.placement.specs.Rack.{Disk, rackOf}
+use Rattle.placement.specs.Held.{copiesFrom}
+use Rattle.placement.proofs.Offsets.{offset}
+use Rattle.writer.specs.Space.{diskLines}
+use Rattle.writer.proofs.Spaces.{Rest, rest-start, rest-step, rest-done}
+use Rattle.writer.proofs.DiskParts.{no-disk, count-place, first-room, count-within, first-next, lines-next}
 use Rattle.writer.proofs.text.put_disks.Statement.{statement}
 use Rattle.writer.proofs.text.put_disks.Tie as tie
-use Rattle.writer.proofs.text.put_disks.Proof.Parts.{Inv-loop, μ-loop, room-here, mul-first, mul-end, shared-slice-read-end, cast-end, add-end, mul-put-disk, sub-put-disk, part-put-disk-start, part-put-disk-end, mul-put-disk-2, sub-put-disk-2, part-put-disk-start-2, part-put-disk-end-2}
-mod Parts
 
-cast-disks : tie.Need-cast-disks Inv-loop μ-loop
-cast-disks c = search needs
+abbrev Inv-loop : tie.InvT-loop
+Inv-loop out₀ at copies counts disks slots next₀ first₀ d₀ out next first d =
+    (d ≤ disks)
+    × ((l : ℕ)
+    → (first ≡ offset (rackOf disks slots l) d)
+    × Rest at (diskLines 1 (copiesFrom (rackOf disks slots l) copies counts)) out₀ next
+    (diskLines (d + 1) (copiesFrom (drop d (rackOf disks slots l)) (drop first copies) (drop d counts))) out)
 
-cast-places : tie.Need-cast-places Inv-loop μ-loop
-cast-places c = search needs
+abbrev μ-loop : tie.MeasureT-loop
+μ-loop out₀ at copies counts disks slots next₀ first₀ d₀ out next first d = disks - d
+
+abbrev at-start : tie.At-loop Inv-loop μ-loop → tie.Start Inv-loop μ-loop
+at-start c = c .before .before .before .before .before .before
+
+-- Disk d has a count, and its places stand within the copy table.
+count-here : (c : tie.In-loop Inv-loop μ-loop) → c .before .loop .d < length (at-start (c .before) .args .counts .now)
+count-here c =
+    let start = at-start (c .before) in
+    count-place _ _ (start .args .rack .streams .0) (c .before .loop .d) (c .loop-test .taken) _ _ (start .pre .0)
+
+room-here :
+    (c : tie.In-loop Inv-loop μ-loop)
+    → (c .before .loop .first + at-start (c .before) .args .rack .slots .0 ≤ length (at-start (c .before) .args .copies .now))
+    × (getD (at-start (c .before) .args .counts .now) (c .before .loop .d) 0 ≤ at-start (c .before) .args .rack .slots .0)
+room-here c =
+    let start = at-start (c .before) in
+    let loop = c .before .loop in
+    let l = start .args .rack .streams .0 in (
+      omega (arith, loop .inv .1 l .0, first-room _ _ l (loop .d) (c .loop-test .taken) _ _ (start .pre .0)),
+      count-within _ _ l (loop .d) (c .loop-test .taken) (start .args .copies .now) _ (start .pre .1),
+    )
 
 loop-holds : tie.Need-loop-holds Inv-loop μ-loop
-loop-holds c =
-    let start = c .before .before .before .before .before .before in
-    let rack = start .args .rack in (
-      omega arith,
-      (
-        (λ l. rest-as (sym (lines-start (rack .disks) (rack .slots .0) l (start .args .films .now) (start .args .viewers .now) (start .args .counts .now))) (rest-start _ _ _)),
-        refl,
-      ),
-    )
+loop-holds c = (omega arith, λ l. (omega arith, rest-start _ _ _))
+
+shared-slice-read-end : tie.Need-shared-slice-read-end Inv-loop μ-loop
+shared-slice-read-end c = omega (arith, count-here (c .before))
+
+cast-end : tie.Need-cast-end Inv-loop μ-loop
+cast-end c = omega (arith, room-here (c .before))
+
+add-end : tie.Need-add-end Inv-loop μ-loop
+add-end c = omega (arith, room-here (c .before))
 
 add-put-disk : tie.Need-add-put-disk Inv-loop μ-loop
-add-put-disk c = omega (arith, c .before .before .loop-test .taken, c .before .before .before .before .before .before .before .before .before .before .fits)
+add-put-disk c = omega (arith, count-here (c .before .before))
 
-put-disk-requires : tie.Need-put-disk-requires Inv-loop μ-loop
-put-disk-requires c κs =
-    let start = c .before .before .before .before .before .before .before .before .before .before .before .before in
-    let rack = start .args .rack in
-    let films = start .args .films .now in
-    let viewers = start .args .viewers .now in
-    let counts = start .args .counts .now in
-    let d = c .before .before .before .before .before .loop .d in (
-      part-length _ _ films (room-here (c .before .before .before .before) .0)
-          ∙ sym (part-length _ _ viewers (room-here (c .before .before .before .before) .1 .0)),
-      omega (
-        arith,
-        c .before .before .before .before .before .loop .inv .1 .0 (rack .streams .0) .behind,
-        start .pre .1 .1 .1,
-        lines-next-length (rack .disks) (rack .slots .0) (rack .streams .0) films viewers counts d (c .before .before .before .before .loop-test .taken) (omega (arith, start .pre .1 .0 .countPlaces)),
-      ),
-    )
+mul-put-disk : tie.Need-mul-put-disk Inv-loop μ-loop
+mul-put-disk c = omega (arith, room-here (c .before .before))
+
+sub-put-disk : tie.Need-sub-put-disk Inv-loop μ-loop
+sub-put-disk c = omega (arith, room-here (c .before .before))
+
+part-put-disk-start : tie.Need-part-put-disk-start Inv-loop μ-loop
+part-put-disk-start c = omega (arith, room-here (c .before .before))
+
+part-put-disk-end : tie.Need-part-put-disk-end Inv-loop μ-loop
+part-put-disk-end c = omega (arith, room-here (c .before .before))
+
+add-first : tie.Need-add-first Inv-loop μ-loop
+add-first c = omega (arith, room-here (c .before .before .before .before .before .before))
 
 add-d : tie.Need-add-d Inv-loop μ-loop
 add-d c = omega arith
@@ -56,31 +84,32 @@ loop-less c = omega arith
 
 loop-again : tie.Need-loop-again Inv-loop μ-loop
 loop-again c =
-    let start = c .before .before .before .before .before .before .before .before .before .before .before .before .before .before .before in
-    let rack = start .args .rack in
-    let put = c .before .before .put-disk .ensures in (
+    let at-put = c .before .before in
+    let at-turn = at-put .before .before .before .before in
+    let at-loop = at-turn .before in
+    let a = at-start at-loop .args in
+    let n = a .rack .disks in
+    let k = a .rack .slots .0 in
+    let d = at-loop .loop .d in
+    let more = at-turn .loop-test .taken in (
       omega arith,
-      (
-        (λ l.
-            rest-step _
-            (rest-as
-            (lines-next (rack .disks) (rack .slots .0) l (start .args .films .now) (start .args .viewers .now) (start .args .counts .now) (c .before .before .before .before .before .before .before .before .loop .d) (c .before .before .before .before .before .before .before .loop-test .taken) (omega (arith, start .pre .1 .0 .countPlaces)))
-            (c .before .before .before .before .before .before .before .before .loop .inv .1 .0 l))
-            put),
-        put-length put ∙ c .before .before .before .before .before .before .before .before .loop .inv .1 .1,
+      λ l. (
+        omega (arith, at-loop .loop .inv .1 l .0, first-next n k l d more),
+        rest-step (lines-next n k l d more (a .copies .now) (a .counts .now) (count-here at-turn) (at-loop .loop .first)) (at-loop .loop .inv .1 l .1) (at-put .put-disk .ensures),
       ),
     )
 
-same-length : tie.Need-same-length Inv-loop μ-loop
-same-length c = c .before .loop .inv .1 .1
-
 returns : tie.Need-returns Inv-loop μ-loop
 returns c =
-    let start = c .before .before .before .before .before .before .before .before in
-    let rack = start .args .rack in
-    rest-done _
-    (lines-end (rack .disks) (rack .slots .0) (rack .streams .0) (start .args .films .now) (start .args .viewers .now) (start .args .counts .now) (c .before .loop .d) (c .loop-test .left))
-    (c .before .loop .inv .1 .0 (rack .streams .0))
+    let a = at-start (c .before) .args in
+    let loop = c .before .loop in
+    rest-done
+    (ap (λ (ds : List Disk). diskLines (loop .d + 1) (copiesFrom ds (drop (loop .first) (a .copies .now)) (drop (loop .d) (a .counts .now))))
+    (no-disk (a .rack .disks) (a .rack .slots .0) (a .rack .streams .0) (loop .d) (c .loop-test .left)))
+    (loop .inv .1 (a .rack .streams .0) .1)
+
+same-length : tie.Need-same-length Inv-loop μ-loop
+same-length c = returns c .same
 
 pub put-disks-spec : {M : Type 1} → statement M
 put-disks-spec =
@@ -88,11 +117,10 @@ put-disks-spec =
     (tie.spec
     Inv-loop
     μ-loop
-    cast-disks
-    cast-places
+    (λ c. search needs)
+    (λ c. search needs)
     loop-holds
-    mul-first
-    mul-end
+    (λ c. search needs)
     shared-slice-read-end
     cast-end
     add-end
@@ -101,11 +129,8 @@ put-disks-spec =
     sub-put-disk
     part-put-disk-start
     part-put-disk-end
-    mul-put-disk-2
-    sub-put-disk-2
-    part-put-disk-start-2
-    part-put-disk-end-2
-    put-disk-requires
+    (λ c κs. search needs)
+    add-first
     add-d
     loop-less
     loop-again

@@ -3,15 +3,13 @@ use crate::number::put_byte;
 use crate::number::put_number;
 use crate::number::put_word;
 ghost use mathlib.Core.Path.{_≡_};
-ghost use Prim.Native.Nat.{_+_, _^_, _<_};
 ghost use lib.ListN.{length};
-ghost use Rattle.plan_text.specs.Refusal.{refusalEnd, refusalText};
+ghost use Rattle.plan_text.specs.RefusalLine.{refusalEnd, refusalText};
 ghost use Rattle.writer.specs.Space.{Put};
 ghost use Rattle.writer.specs.RefusalPromise.{RefusalPromise};
 
 // Stores what follows a refusal's number: the second number where it is not 0, and the closing bracket.
 fn put_end(out: &mut [u8], at: usize, second: u32) -> usize
-    requires { ⌜ at + length (refusalEnd second) < 2 ^ 64 ⌝ }
     ensures { λ next. ⌜ Put at (refusalEnd second) (now (out .entry)) (now (out .exit)) next ⌝ }
 {
     if second == 0 {

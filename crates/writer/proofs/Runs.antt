@@ -1,0 +1,72 @@
+-- The lines of a text as the runs that the writer stores.
+use mathlib.Core.Path.{_≡_, refl, sym, ap, _∙_}
+use mathlib.Core.Bool.{true}
+use mathlib.Core.List.{List, [], _∷_, _++_, map, append-assoc}
+use Prim.Native.Nat.{ℕ, zero, suc, _+_, _≤_, _<_}
+use native.Mathlib.Numerals.{add-one}
+use lib.ListN.{length, drop, getD, drop-of-length-le}
+use lib.Seq.{drop-cons}
+use Rattle.placement.specs.Items.{Item}
+use Rattle.placement.specs.Rack.{rackOf, rackAccepted}
+use Rattle.placement.specs.Tables.{itemIn}
+use Rattle.placement.specs.Plan.{Plan, servedOf, unservedOf}
+use Rattle.placement.proofs.Conjunctions.{false-true}
+use Rattle.placement.proofs.Racks.{rack-length}
+use Rattle.plan_text.specs.Ascii.{ascii}
+use Rattle.plan_text.specs.Decimal.{decimal}
+use Rattle.plan_text.specs.Text.{space, closed, lineFeed, pairText, pairsText, lines, disksThen, rackLine, firstLine, diskLine, leftLine, servedLine, textOf}
+use Rattle.writer.specs.Space.{twoText, diskLines}
+
+-- What stands from i on is the element at i and what stands from i + 1 on.
+pub drop-next : (l : List ℕ) (i : ℕ) → i < length l → drop i l ≡ getD l i 0 ∷ drop (i + 1) l
+drop-next l i h = rw (add-one, drop-cons l i 0)
+
+-- The pairs from i on are the pair at i and the pairs from i + 1 on.
+pub pairs-next :
+    (entries : List ℕ) (i : ℕ) → i < length entries
+    → pairsText (map itemIn (drop i entries)) ≡ (space ∷ pairText (itemIn (getD entries i 0))) ++ pairsText (map itemIn (drop (i + 1) entries))
+pairs-next entries i h = ap (λ (l : List ℕ). pairsText (map itemIn l)) (drop-next entries i h)
+
+-- Behind the last pair stands the closing bracket.
+pub pairs-end : (entries : List ℕ) (i : ℕ) → length entries ≤ i → closed ∷ [] ≡ pairsText (map itemIn (drop i entries))
+pairs-end entries i h = sym (ap (λ (l : List ℕ). pairsText (map itemIn l)) (drop-of-length-le entries h))
+
+-- The rack line is five runs, and a disk's line four.
+pub rack-runs :
+    (d k l : ℕ) → ascii "(rack " ++ (decimal d ++ ((space ∷ []) ++ (twoText k l ++ (lineFeed ∷ [])))) ≡ lines (rackLine d k l ∷ [])
+rack-runs d k l = simp append-assoc
+
+pub disk-runs :
+    (n : ℕ) (copies : List Item) → ascii "(disk " ++ (decimal n ++ (pairsText copies ++ (lineFeed ∷ []))) ≡ lines (diskLine n copies ∷ [])
+disk-runs n copies = simp append-assoc
+
+-- The line of an accepted rack of equal disks has their numbers.
+pub first-line : (n k l : ℕ) → rackAccepted (rackOf n k l) ≡ true → rackLine n k l ≡ firstLine (rackOf n k l)
+first-line zero k l e = false-true e
+first-line (suc n) k l e = ap (λ (m : ℕ). rackLine m k l) (sym (rack-length (suc n) k l))
+
+-- A line stands before the lines after it.
+pub line-before : (line : List ℕ) (after : List (List ℕ)) → lines (line ∷ []) ++ lines after ≡ lines (line ∷ after)
+line-before line after = append-assoc line (lineFeed ∷ []) (lines after)
+
+-- The disks' lines stand before the lines after them.
+disks-before :
+    (number : ℕ) (copies : List (List Item)) (after : List (List ℕ))
+    → diskLines number copies ++ lines after ≡ lines (disksThen number copies after)
+disks-before number [] after = refl
+disks-before number (copies ∷ rest) after =
+    append-assoc (diskLine number copies) (lineFeed ∷ diskLines (suc number) rest) (lines after)
+    ∙ ap (λ (t : List ℕ). diskLine number copies ++ (lineFeed ∷ t)) (disks-before (suc number) rest after)
+
+-- The text of a plan is four runs.
+pub text-runs :
+    (p : Plan)
+    → lines (firstLine (p .rack) ∷ []) ++ (diskLines 1 (p .copies) ++ (lines (leftLine (p .left) ∷ []) ++ lines (servedLine (servedOf p) (unservedOf p) ∷ [])))
+    ≡ textOf p
+unfolding textOf
+text-runs p =
+    let served = servedLine (servedOf p) (unservedOf p) ∷ [] in
+    let after = leftLine (p .left) ∷ served in
+    ap (λ (t : List ℕ). lines (firstLine (p .rack) ∷ []) ++ (diskLines 1 (p .copies) ++ t)) (line-before (leftLine (p .left)) served)
+    ∙ ap (λ (t : List ℕ). lines (firstLine (p .rack) ∷ []) ++ t) (disks-before 1 (p .copies) after)
+    ∙ line-before (firstLine (p .rack)) (disksThen 1 (p .copies) after)

@@ -1,0 +1,8 @@
+// What writing answers. specs/Answers.antt gives document 01's numbers for it.
+use refusal::Refusal;
+
+// The length of the text, or why writing declines.
+pub enum Written {
+    Length(u64),
+    Refused(Refusal),
+}
