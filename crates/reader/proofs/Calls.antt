@@ -1,149 +1,115 @@
 -- The whole call: the answer and the tables, by the judgement of the text and the room in the tables.
-use mathlib.Core.Path.{_≡_, refl, sym, ap, _∙_}
-use mathlib.Core.Bool.{Bool, true, false, cond, _&&_}
-use mathlib.Core.List.{List, [], _∷_, map}
-use mathlib.Core.Logic.{⊎-elim}
-use types.Run.{OneOf}
-use denote.Enum.Declared.{tagOf}
-use Prim.Native.Nat.{ℕ, _*_, _≤_, min}
+use mathlib.Core.Path.{_≡_, refl, sym, ap, ap₂, _∙_}
+use mathlib.Core.Bool.{true, false}
+use mathlib.Core.List.{List, _++_, map}
+use Prim.Native.Nat.{ℕ, _≤_}
 use native.Mathlib.Omega.{arith}
-use borrow.Author.Tests.{leb-true}
-use lib.Dec.{leb}
-use lib.ListN.{length, length-map}
-use Rattle.placement.specs.Items.{filmOf, amountOf}
-use Rattle.placement.specs.Rack.{rackOf}
-use Rattle.placement.specs.Tables.{Tables, places}
-use Rattle.plan_text.specs.Plan.{Plan, wellFormed}
-use Rattle.plan_text.specs.ReadCall.{Verdict, plan, refused, answerTo, textVerdict, withTables, roomForPlan, judging, holdingPlan, ReadNumbers}
-use Rattle.plan_text.proofs.Choices.{and-left, and-right, cond-true, cond-false}
-use Rattle.plan_text.proofs.Laws.{read-wellFormed}
-use Rattle.reader.specs.declared.PlanRead.{PlanRead}
-use Rattle.reader.specs.declared.ReadAnswer.{ReadAnswer}
-use Rattle.reader.proofs.ReadAnswer.{the-type}
-use Rattle.reader.specs.declared.ReadAnswer.the-variants as answers
-use Rattle.reader.specs.Answers.{numbersOf, refusal}
+use lib.ListN.{length, drop, length-map}
+use Rattle.refusal.specs.Verdict.{Verdict, given, refused, Numbers}
+use Rattle.refusal.specs.Numbers.{numberOf}
+use Rattle.refusal.specs.declared.Refusal.{Refusal}
+use Rattle.refusal.specs.declared.Refusal.the-variants.{TablesTooShort}
+use Rattle.placement.specs.Rack.{Disk, rackOf, disksOf}
+use Rattle.placement.specs.Tables.{Tables, tables, entryOf, places, written, roomIn, roomFor, ownTables}
+use Rattle.placement.specs.Plan.{Plan, wellFormed}
+use Rattle.placement.proofs.Racks.{accepted-equal}
+use Rattle.placement.proofs.Formed.{plan-rack, plan-disks, plan-left, plan-lists, left-count}
+use Rattle.placement.proofs.Written.{written-front}
+use Rattle.placement.proofs.ReadBack.{places-length}
+use Rattle.placement.proofs.OwnTables.{own-room}
+use Rattle.plan_text.specs.ReadCall.{Told, answerTo, textVerdict, holdingPlan}
+use Rattle.plan_text.proofs.Verdicts.{verdict-wellFormed}
+use Rattle.reader.specs.declared.answer.PlanRead.{PlanRead}
+use Rattle.reader.specs.declared.answer.ReadAnswer.{ReadAnswer}
+use Rattle.reader.specs.declared.answer.ReadAnswer.the-variants as answers
+use Rattle.reader.specs.Answers.{numbersOf}
 use Rattle.reader.specs.Pass.{Judged}
-use Rattle.reader.specs.Stored.{Roomy, frontsCopied}
+use Rattle.reader.specs.Stored.{frontCopied, frontsCopied}
 use Rattle.reader.specs.Promise.{ReadPromise}
-use Rattle.reader.proofs.Fronts.{copied-written, tables-same}
-use Rattle.reader.proofs.Promises.{by-verdict}
-use Rattle.reader.proofs.Verdicts.{Found, found-plan}
-use Rattle.reader.proofs.PlanSizes.{few-disks, few-places, few-left, disk-count, all-places}
-
-judging-is : (text : List ℕ) → judging text ≡ answerTo (textVerdict text)
-unfolding judging
-judging-is text = refl
+use Rattle.refusal.proofs.Refusals.{number-some}
+use Rattle.reader.proofs.Judgements.{text-numbered, found-plan}
+use Rattle.reader.proofs.Promises.{read-given, read-short, read-declined}
 
 -- A text that is refused changes no table.
 pub call-refused :
-    (text : List ℕ) (entry work work′ : Tables) (answer : ReadAnswer) → Judged text work work′ answer
-    → (numbersOf answer .refusal ≡ 0 → ⊥) → ReadPromise text entry entry (numbersOf answer)
-call-refused text entry work work′ answer judged some = go (textVerdict text) refl
+    (text : List ℕ) (entry work work′ : Tables) (r : Refusal) → Judged (textVerdict text) work work′ (answers.Refused r)
+    → ReadPromise text entry entry (numbersOf (answers.Refused r))
+call-refused text entry work work′ r judged = go (textVerdict text) refl
   where
-    go : (v : Verdict) → textVerdict text ≡ v → ReadPromise text entry entry (numbersOf answer)
-    go (plan p) e = absurd (some (ap (λ (n : ReadNumbers). n .refusal) (judged .numbers ∙ judging-is text ∙ ap answerTo e)))
-    go (refused n s) e =
-        by-verdict text entry entry (numbersOf answer) (refused n s) (ap (withTables entry) e)
-        (judged .numbers ∙ judging-is text ∙ ap answerTo e) refl
+    go : (v : Verdict Plan) → textVerdict text ≡ v → ReadPromise text entry entry (numbersOf (answers.Refused r))
+    go (given p) e =
+        let z : numberOf r ≡ 0 = ap (λ (n : Numbers Told). n .refusal) (judged .numbers ∙ ap answerTo e) in
+        absurd (omega (arith, number-some r))
+    go (refused n s) e = read-declined text n s e (numbersOf (answers.Refused r)) (judged .numbers ∙ ap answerTo e) entry
 
--- An answer that is no plan has a refusal.
-pub no-plan : (answer : ReadAnswer) → OneOf (1 ∷ 2 ∷ 3 ∷ []) (tagOf the-type answer) → numbersOf answer .refusal ≡ 0 → ⊥
-no-plan (answers.Plan r) tag e = ⊎-elim (λ i. omega arith) (λ j. ⊎-elim (λ i. omega arith) (λ i. omega arith) j) tag
-no-plan answers.TextTooLong tag e = omega arith
-no-plan (answers.Line n) tag e = omega arith
-no-plan answers.TablesTooShort tag e = omega arith
+-- The first places of a table that was overwritten are what overwrote it.
+copied-written : (new work to : List ℕ) (n : ℕ) → length new ≡ n → frontCopied n (written new work) to ≡ written new to
+copied-written new work to n e =
+    ap (λ (l : List ℕ). l ++ drop n to) (written-front new work n e) ∙ ap (λ (i : ℕ). new ++ drop i to) (sym e)
+
+-- The first places of tables that hold a plan, stored in others, hold it there.
+copied :
+    (p : Plan) (work to : Tables) → wellFormed p ≡ true
+    → frontsCopied (p .rack) (length (p .left)) (holdingPlan p work) to ≡ holdingPlan p to
+copied p work to formed =
+    ap₂ (λ (a b : List ℕ). tables a b (frontCopied (length (p .left)) (written (map entryOf (p .left)) (work .left)) (to .left)))
+    (copied-written (places (p .rack) (p .copies)) (work .copies) (to .copies) _ (places-length (p .rack) (p .copies) (plan-disks p formed)))
+    (copied-written (map length (p .copies)) (work .counts) (to .counts) _ (length-map (p .copies) length ∙ plan-lists p formed))
+    ∙ ap (tables _ _) (copied-written (map entryOf (p .left)) (work .left) (to .left) _ (length-map (p .left) entryOf))
 
 -- A text with a plan.
-module _ (text : List ℕ) (entry work work′ : Tables) (r : PlanRead) (judged : Judged text work work′ (answers.Plan r)) where
-  same : Found text
-  same = found-plan text (sym (ap (λ (n : ReadNumbers). n .refusal) (judged .numbers ∙ judging-is text)))
+module _ (text : List ℕ) (entry work work′ : Tables) (r : PlanRead) (judged : Judged (textVerdict text) work work′ (answers.Plan r)) where
+  found : (p : Plan) × (textVerdict text ≡ given p)
+  found = found-plan (textVerdict text) (text-numbered text) (sym (ap (λ (n : Numbers Told). n .refusal) (judged .numbers)))
 
   abbrev p : Plan
-  p = same .found
+  p = found .0
 
   formed : wellFormed p ≡ true
-  formed = read-wellFormed text p (same .read)
+  formed = verdict-wellFormed text p (found .1)
 
-  numbers : numbersOf (answers.Plan r) ≡ answerTo (plan p)
-  numbers = judged .numbers ∙ judging-is text ∙ ap answerTo (same .verdict)
+  numbers : numbersOf (answers.Plan r) ≡ answerTo (given p)
+  numbers = judged .numbers ∙ ap answerTo (found .1)
 
-  disks-same : r .rack .disks ≡ p .disks
-  disks-same = ap (λ (n : ReadNumbers). n .disks) numbers
-
-  slots-same : r .rack .slots .0 ≡ p .slots
-  slots-same = ap (λ (n : ReadNumbers). n .slots) numbers
+  -- The rack and the number of left films are the plan's.
+  rack-same : disksOf (r .rack) ≡ p .rack
+  rack-same =
+      ap (λ (n : Numbers Told). rackOf (n .values .disks) (n .values .slots) (n .values .streams)) numbers
+      ∙ sym (accepted-equal (p .rack) (plan-rack p formed))
 
   left-same : r .left ≡ length (p .left)
-  left-same = ap (λ (n : ReadNumbers). n .left) numbers
+  left-same = ap (λ (n : Numbers Told). n .values .left) numbers
 
-  places-same : r .rack .disks * r .rack .slots .0 ≡ p .disks * p .slots
-  places-same = ap (λ (n : ℕ). n * r .rack .slots .0) disks-same ∙ ap (λ (n : ℕ). p .disks * n) slots-same
-
-  -- The room that the code tests.
-  abbrev room : Bool
-  room =
-      leb (r .rack .disks * r .rack .slots .0) (min (length (entry .films)) (length (entry .viewers)))
-      && (leb (r .rack .disks) (length (entry .counts)) && leb (r .left) (min (length (entry .leftFilms)) (length (entry .leftAmounts))))
-
-  room-same : room ≡ roomForPlan p entry
-  room-same =
-      ap (λ (n : ℕ). leb n (min (length (entry .films)) (length (entry .viewers))) && (leb (r .rack .disks) (length (entry .counts)) && leb (r .left) (min (length (entry .leftFilms)) (length (entry .leftAmounts))))) places-same
-      ∙ ap (λ (n : ℕ). leb (p .disks * p .slots) (min (length (entry .films)) (length (entry .viewers))) && (leb n (length (entry .counts)) && leb (r .left) (min (length (entry .leftFilms)) (length (entry .leftAmounts))))) disks-same
-      ∙ ap (λ (n : ℕ). leb (p .disks * p .slots) (min (length (entry .films)) (length (entry .viewers))) && (leb (p .disks) (length (entry .counts)) && leb n (min (length (entry .leftFilms)) (length (entry .leftAmounts))))) left-same
-
-  given : withTables entry (textVerdict text) ≡ cond (roomForPlan p entry) (plan p) (refused 7 0)
-  given = ap (withTables entry) (same .verdict)
+  room-same : (t : Tables) → roomFor (disksOf (r .rack)) (r .left) t ≡ roomFor (p .rack) (length (p .left)) t
+  room-same t = ap₂ (λ (rack : List Disk) (n : ℕ). roomFor rack n t) rack-same left-same
 
   -- The tables are too short.
-  pub call-short : room ≡ false → ReadPromise text entry entry (refusal 7 0)
+  pub call-short :
+      roomFor (disksOf (r .rack)) (r .left) entry ≡ false
+      → ReadPromise text entry entry (numbersOf (answers.Refused TablesTooShort))
   call-short e =
-      by-verdict text entry entry (refusal 7 0) (refused 7 0)
-      (given ∙ cond-false (roomForPlan p entry) (plan p) (refused 7 0) (sym room-same ∙ e)) refl refl
+      read-short text p (found .1) (numbersOf (answers.Plan r)) numbers entry (numbersOf (answers.Refused TablesTooShort))
+      (sym (room-same entry) ∙ e) refl
 
-  -- The tables to work in have the plan's places, and so have lent tables with room.
-  pub work-roomy :
-      length (work′ .films) ≡ 2048 → length (work′ .viewers) ≡ 2048 → length (work′ .counts) ≡ 64
-      → length (work′ .leftFilms) ≡ 1024 → length (work′ .leftAmounts) ≡ 1024
-      → Roomy (r .rack .disks * r .rack .slots .0) (r .rack .disks) (r .left) work′
-  work-roomy a b c d e =
-      let g : r .rack .disks * r .rack .slots .0 ≤ 2048 = omega (arith, places-same, few-places p formed) in
-      let h : r .rack .disks ≤ 64 = omega (arith, disks-same, few-disks p formed) in
-      let i : r .left ≤ 1024 = omega (arith, left-same, few-left p formed) in
-      record { films = omega arith; viewers = omega arith; disks = omega arith; leftFilms = omega arith; leftAmounts = omega arith }
-
-  pub lent-roomy : room ≡ true → Roomy (r .rack .disks * r .rack .slots .0) (r .rack .disks) (r .left) entry
-  lent-roomy e =
-      let rest = and-right (leb (r .rack .disks * r .rack .slots .0) (min (length (entry .films)) (length (entry .viewers)))) (leb (r .rack .disks) (length (entry .counts)) && leb (r .left) (min (length (entry .leftFilms)) (length (entry .leftAmounts)))) e in
-      let g : r .rack .disks * r .rack .slots .0 ≤ min (length (entry .films)) (length (entry .viewers)) =
-      leb-true _ _ (and-left (leb (r .rack .disks * r .rack .slots .0) (min (length (entry .films)) (length (entry .viewers)))) (leb (r .rack .disks) (length (entry .counts)) && leb (r .left) (min (length (entry .leftFilms)) (length (entry .leftAmounts)))) e) in
-      let h : r .rack .disks ≤ length (entry .counts) =
-      leb-true _ _ (and-left (leb (r .rack .disks) (length (entry .counts))) (leb (r .left) (min (length (entry .leftFilms)) (length (entry .leftAmounts)))) rest) in
-      let i : r .left ≤ min (length (entry .leftFilms)) (length (entry .leftAmounts)) =
-      leb-true _ _ (and-right (leb (r .rack .disks) (length (entry .counts))) (leb (r .left) (min (length (entry .leftFilms)) (length (entry .leftAmounts)))) rest) in
-      record { films = omega arith; viewers = omega arith; disks = h; leftFilms = omega arith; leftAmounts = omega arith }
-
-  -- The front parts of the tables that hold the plan, stored in others, hold it there.
-  copied : frontsCopied (p .disks * p .slots) (p .disks) (length (p .left)) (holdingPlan p work) entry ≡ holdingPlan p entry
-  copied =
-      let rack = rackOf (p .disks) (p .slots) (p .streams) in
-      let f = copied-written (places filmOf rack (p .copies)) (work .films) (entry .films) (p .disks * p .slots) (all-places p formed filmOf) in
-      let v = copied-written (places amountOf rack (p .copies)) (work .viewers) (entry .viewers) (p .disks * p .slots) (all-places p formed amountOf) in
-      let c = copied-written (map length (p .copies)) (work .counts) (entry .counts) (p .disks) (length-map (p .copies) length ∙ disk-count p formed) in
-      let lf = copied-written (map filmOf (p .left)) (work .leftFilms) (entry .leftFilms) (length (p .left)) (length-map (p .left) filmOf) in
-      let la = copied-written (map amountOf (p .left)) (work .leftAmounts) (entry .leftAmounts) (length (p .left)) (length-map (p .left) amountOf) in
-      tables-same f v c lf la
+  -- The tables to work in have room.
+  pub work-room :
+      work ≡ ownTables → length (work′ .copies) ≡ length (work .copies) → length (work′ .counts) ≡ length (work .counts)
+      → length (work′ .left) ≡ length (work .left) → roomFor (disksOf (r .rack)) (r .left) work′ ≡ true
+  work-room own a b c =
+      ap₂ (λ (i j : ℕ). roomIn (disksOf (r .rack)) (r .left) i j (length (work′ .left))) a b
+      ∙ ap (λ (k : ℕ). roomIn (disksOf (r .rack)) (r .left) (length (work .copies)) (length (work .counts)) k) c
+      ∙ ap (roomFor (disksOf (r .rack)) (r .left)) own
+      ∙ room-same ownTables
+      ∙ own-room (p .rack) (length (p .left)) (plan-rack p formed) (left-count (p .left) (plan-left p formed))
 
   -- The plan is stored.
   pub call-stored :
-      (exit : Tables) → room ≡ true
-      → exit ≡ frontsCopied (r .rack .disks * r .rack .slots .0) (r .rack .disks) (r .left) work′ entry
+      (exit : Tables) → roomFor (disksOf (r .rack)) (r .left) entry ≡ true
+      → exit ≡ frontsCopied (disksOf (r .rack)) (r .left) work′ entry
       → ReadPromise text entry exit (numbersOf (answers.Plan r))
-  call-stored exit e stored =
-      by-verdict text entry exit (numbersOf (answers.Plan r)) (plan p)
-      (given ∙ cond-true (roomForPlan p entry) (plan p) (refused 7 0) (sym room-same ∙ e)) numbers
+  call-stored exit room stored =
+      read-given text p (found .1) (numbersOf (answers.Plan r)) numbers entry exit (sym (room-same entry) ∙ room)
       (stored
-      ∙ ap (λ (n : ℕ). frontsCopied n (r .rack .disks) (r .left) work′ entry) places-same
-      ∙ ap (λ (n : ℕ). frontsCopied (p .disks * p .slots) n (r .left) work′ entry) disks-same
-      ∙ ap (λ (n : ℕ). frontsCopied (p .disks * p .slots) (p .disks) n work′ entry) left-same
-      ∙ ap (λ (t : Tables). frontsCopied (p .disks * p .slots) (p .disks) (length (p .left)) t entry) (judged .tables p (same .verdict))
-      ∙ copied)
+      ∙ ap₂ (λ (rack : List Disk) (n : ℕ). frontsCopied rack n work′ entry) rack-same left-same
+      ∙ ap (λ (t : Tables). frontsCopied (p .rack) (length (p .left)) t entry) (judged .tables p (found .1))
+      ∙ copied p work entry formed)

@@ -1,106 +1,128 @@
 -- The tables when one disk more is stored.
 use mathlib.Core.Path.{_≡_, refl, sym, ap, _∙_}
 use mathlib.Core.List.{List, [], _∷_, _++_, map, append-assoc, append-nil}
-use Prim.Native.Nat.{ℕ, suc, _+_, _-_, _*_, _≤_, _<_}
+use Prim.Native.Nat.{ℕ, zero, suc, _+_, _≤_, _<_}
 use native.Mathlib.Omega.{arith}
-use native.Mathlib.Nat.{suc-mul}
-use native.Mathlib.Numerals.{add-one}
-use lib.ListN.{length, take, drop, set, replicate, length-append, length-map}
+use lib.ListN.{length, take, drop, set, replicate, length-append, length-map, length-replicate, take-append-drop, drop-of-length-le}
 use borrow.Rule.Slice.PartMut.{putMid}
-use Rattle.placement.specs.Items.{Item, total, filmOf, amountOf}
-use Rattle.placement.specs.Rack.{rackOf}
+use Rattle.placement.specs.Items.{Item, total}
+use Rattle.placement.specs.Rack.{Disk, allSlots}
 use Rattle.placement.specs.Method.{served}
-use Rattle.placement.specs.Tables.{padded, places, written}
-use Rattle.reader.specs.Pairs.{front, Stored}
+use Rattle.placement.specs.Tables.{entryOf, padded, places, written}
+use Rattle.placement.specs.Held.{front}
+use Rattle.placement.proofs.Written.{padded-length, zeros-written, written-behind, written-one, written-part}
+use Rattle.placement.proofs.ReadBack.{front-length, front-entries}
+use Rattle.reader.specs.Pairs.{Stored}
 use Rattle.reader.specs.Disks.{Filled}
-use Rattle.reader.proofs.Padding.{padded-length, written-part, written-one, front-films, front-amounts, front-length}
 
 -- The places of one disk more stand behind the others.
 places-end :
-    (part : Item → ℕ) (k l : ℕ) (copies : List (List Item)) (x : List Item)
-    → places part (rackOf (suc (length copies)) k l) (copies ++ (x ∷ []))
-    ≡ places part (rackOf (length copies) k l) copies ++ padded k (map part x)
-places-end part k l [] x = append-nil (padded k (map part x))
-places-end part k l (c ∷ copies) x =
-    ap (λ (r : List ℕ). padded k (map part c) ++ r) (places-end part k l copies x)
-    ∙ sym (append-assoc (padded k (map part c)) (places part (rackOf (length copies) k l) copies) (padded k (map part x)))
+    (disks : List Disk) (layout : List (List Item)) (d : Disk) (x : List Item) → length layout ≡ length disks
+    → places (disks ++ (d ∷ [])) (layout ++ (x ∷ [])) ≡ places disks layout ++ padded (d .slots) (map entryOf x)
+places-end [] [] d x e = append-nil (padded (d .slots) (map entryOf x))
+places-end [] (y ∷ layout) d x e = absurd (omega arith)
+places-end (b ∷ disks) [] d x e = absurd (omega arith)
+places-end (b ∷ disks) (y ∷ layout) d x e =
+    ap (λ (r : List ℕ). padded (b .slots) (map entryOf y) ++ r) (places-end disks layout d x (omega arith))
+    ∙ sym (append-assoc (padded (b .slots) (map entryOf y)) (places disks layout) (padded (d .slots) (map entryOf x)))
 
-pub served-end : (copies : List (List Item)) (x : List Item) → served (copies ++ (x ∷ [])) ≡ served copies + total x
+slots-end : (disks : List Disk) (d : Disk) → allSlots (disks ++ (d ∷ [])) ≡ allSlots disks + d .slots
+slots-end [] d = omega arith
+slots-end (b ∷ disks) d = omega (arith, slots-end disks d)
+
+pub served-end : (layout : List (List Item)) (x : List Item) → served (layout ++ (x ∷ [])) ≡ served layout + total x
 served-end [] x = omega arith
-served-end (c ∷ copies) x = omega (arith, served-end copies x)
+served-end (y ∷ layout) x = omega (arith, served-end layout x)
 
-lengths-end : (copies : List (List Item)) (x : List Item) → map length (copies ++ (x ∷ [])) ≡ map length copies ++ (length x ∷ [])
+lengths-end : (layout : List (List Item)) (x : List Item) → map length (layout ++ (x ∷ [])) ≡ map length layout ++ (length x ∷ [])
 lengths-end [] x = refl
-lengths-end (c ∷ copies) x = ap (λ (r : List ℕ). length c ∷ r) (lengths-end copies x)
+lengths-end (y ∷ layout) x = ap (λ (r : List ℕ). length y ∷ r) (lengths-end layout x)
 
--- One disk more, of n copies that stand at the front of its lent part.
+-- A part of a list of zeros is zeros.
+part-zeros : (a k m : ℕ) → a + k ≤ m → take {A = ℕ} k (drop a (replicate m 0)) ≡ replicate k 0
+part-zeros zero zero m h = refl
+part-zeros zero (suc k) zero h = absurd (omega arith)
+part-zeros zero (suc k) (suc m) h = ap (λ (l : List ℕ). 0 ∷ l) (part-zeros zero k m (omega arith))
+part-zeros (suc a) k zero h = absurd (omega arith)
+part-zeros (suc a) k (suc m) h = part-zeros a k m (omega arith)
+
+-- One disk more, number i from 0, whose n copies stand at the front of its part, lent from place a on.
 module _
-    (d k l n : ℕ) (copies : List (List Item)) (films₀ viewers₀ counts₀ films viewers counts fs vs : List ℕ)
-    (before : Filled d k l copies films₀ viewers₀ counts₀ films viewers counts)
-    (zeroFilms : films₀ ≡ replicate (length films₀) 0)
-    (zeroViewers : viewers₀ ≡ replicate (length viewers₀) 0)
-    (filmsRoom : d * k + k ≤ length films₀)
-    (viewersRoom : d * k + k ≤ length viewers₀)
-    (countsRoom : d < length counts₀)
-    (stored : Stored n (take ((d * k + k) - d * k) (drop (d * k) films)) (take ((d * k + k) - d * k) (drop (d * k) viewers)) fs vs)
-    (few : n ≤ k)
-    (filmsPart : length fs ≡ k)
-    (viewersPart : length vs ≡ k)
+    (disks : List Disk) (layout : List (List Item)) (d : Disk) (n a size i m : ℕ) (copies₀ counts₀ copies counts part : List ℕ)
+    (before : Filled disks layout copies₀ counts₀ copies counts)
+    (zeros : copies₀ ≡ replicate m 0)
+    (first : a ≡ allSlots disks)
+    (sized : size ≡ d .slots)
+    (room : a + d .slots ≤ m)
+    (number : i ≡ length disks)
+    (countsRoom : i < length counts₀)
+    (stored : Stored n (take size (drop a copies)) part)
+    (wide : length part ≡ d .slots)
   where
-    -- The disk's copies.
+    -- The disk's copies, and its places.
     abbrev here : List Item
-    here = front n fs vs
+    here = front n part
+
+    abbrev mine : List ℕ
+    mine = padded (d .slots) (map entryOf here)
+
+    lent : take size (drop a copies) ≡ replicate (d .slots) 0
+    lent =
+        ap (λ (k : ℕ). take k (drop a copies)) sized
+        ∙ ap (λ (l : List ℕ). take (d .slots) (drop a l)) (before .inCopies)
+        ∙ ap (take (d .slots)) (written-behind (places disks layout) copies₀ a (before .whole ∙ sym first))
+        ∙ ap (λ (l : List ℕ). take (d .slots) (drop a l)) zeros
+        ∙ part-zeros a (d .slots) m room
+
+    few : n ≤ d .slots
+    few = omega (arith, stored .few, ap length lent, length-replicate {A = ℕ} (d .slots) 0)
 
     count : length here ≡ n
-    count = front-length n fs vs (omega arith) (omega arith)
+    count = front-length n part (omega (arith, few))
 
-    more-places : (part : Item → ℕ) → places part (rackOf (d + 1) k l) (copies ++ (here ∷ [])) ≡ places part (rackOf d k l) copies ++ padded k (map part here)
-    more-places part =
-        ap (λ (i : ℕ). places part (rackOf i k l) (copies ++ (here ∷ []))) (add-one d ∙ ap suc (sym (before .number)))
-        ∙ places-end part k l copies here
-        ∙ ap (λ (i : ℕ). places part (rackOf i k l) copies ++ padded k (map part here)) (before .number)
+    same-count : length (map entryOf here) ≡ n
+    same-count = length-map here entryOf ∙ count
 
-    more-films : putMid (d * k) ((d * k + k) - d * k) films fs ≡ written (places filmOf (rackOf (d + 1) k l) (copies ++ (here ∷ []))) films₀
-    more-films =
-        written-part (places filmOf (rackOf d k l) copies) films₀ films fs (map filmOf here) (d * k) k n
-        (before .inFilms) (before .whole filmOf) zeroFilms filmsRoom
-        (sym (front-films n fs vs (omega arith) (omega arith))) (stored .filmsKept)
-        (length-map here filmOf ∙ count) few
-        ∙ ap (λ (r : List ℕ). written r films₀) (sym (more-places filmOf))
+    mine-length : length mine ≡ d .slots
+    mine-length = padded-length (d .slots) (map entryOf here) (omega (arith, same-count, few))
 
-    more-viewers : putMid (d * k) ((d * k + k) - d * k) viewers vs ≡ written (places amountOf (rackOf (d + 1) k l) (copies ++ (here ∷ []))) viewers₀
-    more-viewers =
-        written-part (places amountOf (rackOf d k l) copies) viewers₀ viewers vs (map amountOf here) (d * k) k n
-        (before .inViewers) (before .whole amountOf) zeroViewers viewersRoom
-        (sym (front-amounts n fs vs (omega arith) (omega arith))) (stored .amountsKept)
-        (length-map here amountOf ∙ count) few
-        ∙ ap (λ (r : List ℕ). written r viewers₀) (sym (more-places amountOf))
+    -- The part holds them.
+    part-mine : part ≡ mine
+    part-mine =
+        sym (take-append-drop n part)
+        ∙ ap (λ (l : List ℕ). l ++ drop n part) (sym (front-entries n part))
+        ∙ ap (λ (l : List ℕ). map entryOf here ++ l) (stored .kept ∙ ap (drop n) lent)
+        ∙ ap (λ (k : ℕ). map entryOf here ++ drop k (replicate (d .slots) 0)) (sym same-count)
+        ∙ zeros-written (d .slots) (map entryOf here)
 
-    more-counts : set counts d n ≡ written (map length (copies ++ (here ∷ []))) counts₀
-    more-counts =
-        let at : length (map length copies) ≡ d = length-map copies length ∙ before .number in
-        ap (λ (l : List ℕ). set l d n) (before .inCounts)
-        ∙ ap (λ (i : ℕ). set (written (map length copies) counts₀) i n) (sym at)
-        ∙ written-one (map length copies) counts₀ n (omega arith)
-        ∙ ap (λ (i : ℕ). written (map length copies ++ (i ∷ [])) counts₀) (sym count)
-        ∙ ap (λ (r : List ℕ). written r counts₀) (sym (lengths-end copies here))
+    part-written : part ≡ written mine (take size (drop a copies))
+    part-written =
+        let none : length (take size (drop a copies)) ≤ length mine =
+        omega (arith, ap length lent, length-replicate {A = ℕ} (d .slots) 0, mine-length) in
+        part-mine ∙ sym (append-nil mine) ∙ ap (λ (l : List ℕ). mine ++ l) (sym (drop-of-length-le (take size (drop a copies)) none))
+
+    more-places : places (disks ++ (d ∷ [])) (layout ++ (here ∷ [])) ≡ places disks layout ++ mine
+    more-places = places-end disks layout d here (before .number)
 
     pub filled-more :
-        Filled (d + 1) k l (copies ++ (here ∷ [])) films₀ viewers₀ counts₀
-        (putMid (d * k) ((d * k + k) - d * k) films fs) (putMid (d * k) ((d * k + k) - d * k) viewers vs) (set counts d n)
+        Filled (disks ++ (d ∷ [])) (layout ++ (here ∷ [])) copies₀ counts₀ (putMid a size copies part) (set counts i n)
     filled-more = record {
-      number = omega (arith, length-append copies (here ∷ []), before .number);
-      whole = λ part.
+      number = omega (arith, length-append layout (here ∷ []), length-append disks (d ∷ []), before .number);
+      whole =
           omega (
             arith,
-            ap length (more-places part),
-            length-append (places part (rackOf d k l) copies) (padded k (map part here)),
-            before .whole part,
-            padded-length k (map part here) (omega (arith, length-map here part, count)),
-            suc-mul d k,
-            ap (λ (i : ℕ). i * k) (add-one d),
+            ap length more-places,
+            length-append (places disks layout) mine,
+            before .whole,
+            mine-length,
+            slots-end disks d,
           );
-      inFilms = more-films;
-      inViewers = more-viewers;
-      inCounts = more-counts;
+      inCopies =
+          written-part (places disks layout) mine copies₀ copies part a size (before .inCopies) (before .whole ∙ sym first)
+          (omega (arith, mine-length)) part-written
+          ∙ ap (λ (l : List ℕ). written l copies₀) (sym more-places);
+      inCounts =
+          written-one (map length layout) counts₀ counts i n (before .inCounts) (length-map layout length ∙ before .number ∙ sym number) countsRoom
+          ∙ ap (λ (k : ℕ). written (map length layout ++ (k ∷ [])) counts₀) (sym count)
+          ∙ ap (λ (l : List ℕ). written l counts₀) (sym (lengths-end layout here));
     }

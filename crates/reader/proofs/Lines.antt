@@ -4,8 +4,10 @@ use mathlib.Core.Bool.{Bool, true, false, cond, _&&_}
 use mathlib.Core.List.{List, [], _∷_, _++_}
 use Prim.Native.Nat.{ℕ, _≤_}
 use native.Mathlib.Omega.{arith}
-use lib.ListN.{length, take, drop, length-take}
+use lib.ListN.{length, take, drop, length-take, length-map}
 use Rattle.placement.specs.Items.{Item}
+use Rattle.placement.specs.Tables.{itemIn}
+use Rattle.placement.specs.Held.{front}
 use Rattle.plan_text.specs.Ascii.{ascii}
 use Rattle.plan_text.specs.Decimal.{decimal}
 use Rattle.plan_text.specs.Text.{space, closed, lineFeed, diskHead, servedLine}
@@ -14,11 +16,10 @@ use Rattle.plan_text.specs.Reading.{line, pairsBody}
 use Rattle.plan_text.specs.Capped.{saturated}
 use Rattle.plan_text.proofs.Pieces.{unparsed-parsed}
 use Rattle.well_formed.specs.Sum.{Summed}
-use Rattle.well_formed.proofs.Sums.{sumList-entries}
 use Rattle.reader.specs.declared.cursor.Cursor.{Cursor}
 use Rattle.reader.specs.declared.pairs.Pairs.{Pairs}
 use Rattle.reader.specs.Cursor.{place}
-use Rattle.reader.specs.Pairs.{front, PairsRead}
+use Rattle.reader.specs.Pairs.{PairsRead}
 use Rattle.reader.specs.Line.{lineEnd, LineRead}
 use Rattle.reader.proofs.Pieces.{next-same, piece, piece-valued, literal-append, fitting}
 use Rattle.reader.proofs.Bytes.{literal-one}
@@ -117,27 +118,26 @@ served-read s u p a b c d e r h₁ h₂ h₃ h₄ h₅ h₆ =
 -- A line of pairs: head, pairs, line feed, test and sum.
 pub pairs-line :
     (head : List ℕ) (test : List Item → Bool) (text : List ℕ) (cursor headed after : Cursor)
-    (films amounts films′ amounts′ : List ℕ) (found : Pairs) (accepted : Bool) (sum : ℕ)
+    (entries entries′ : List ℕ) (found : Pairs) (accepted : Bool) (sum : ℕ)
     → place text headed ≡ next (place text cursor) (λ u t. literal head t)
-    → PairsRead text headed films amounts films′ amounts′ found
-    → accepted ≡ test (front (found .count) films′ amounts′)
+    → PairsRead text headed entries entries′ found
+    → accepted ≡ test (front (found .count) entries′)
     → place text after ≡ next (place text (found .after)) (λ u t. lineEnd accepted t)
-    → Summed (take (found .count) amounts′) sum
-    → length films′ ≡ length films → length amounts′ ≡ length films → length films ≤ 4294967296
-    → LineRead head test text cursor films amounts films′ amounts′ (record { count = found .count; sum = sum; after = after })
-pairs-line head test text cursor headed after films amounts films′ amounts′ found accepted sum h₁ h₂ h₃ h₄ h₅ h₆ h₇ h₈ =
-    let xs = front (found .count) films′ amounts′ in
+    → Summed (front (found .count) entries′) sum
+    → length entries′ ≤ 4294967296
+    → LineRead head test text cursor entries entries′ (record { count = found .count; sum = sum; after = after })
+pairs-line head test text cursor headed after entries entries′ found accepted sum h₁ h₂ h₃ h₄ h₅ h₆ =
+    let xs = front (found .count) entries′ in
     let end : place text after ≡ next (place text (found .after)) (λ u t. lineEnd (test xs) t) =
     h₄ ∙ ap (λ (b : Bool). next (place text (found .after)) (λ u t. lineEnd b t)) h₃ in
-    let few : length (take (found .count) amounts′) ≤ length (take (found .count) films′) =
-    omega (arith, length-take (found .count) amounts′, length-take (found .count) films′) in
-    let plain : length (take (found .count) amounts′) ≤ 4294967296 = omega (arith, length-take (found .count) amounts′) in
+    let plain : length xs ≤ 4294967296 =
+    omega (arith, length-map (take (found .count) entries′) itemIn, length-take (found .count) entries′) in
     record {
       reads =
-          line-read xs (pairsBody saturated head (length films)) test (place text after) (place text (found .after)) (place text cursor)
-          (h₂ .reads ∙ piece (place text headed) (place text cursor) (literal head) (pairs saturated (length films)) h₁)
+          line-read xs (pairsBody saturated head (length entries)) test (place text after) (place text (found .after)) (place text cursor)
+          (h₂ .reads ∙ piece (place text headed) (place text cursor) (literal head) (pairs saturated (length entries)) h₁)
           end;
       stored = h₂ .stored;
-      summed = h₅ .plain plain ∙ sumList-entries (take (found .count) films′) (take (found .count) amounts′) few;
+      summed = h₅ .plain plain;
       passed = λ e. lineEnd-passed (test xs) (place text (found .after)) (drop (after .at) text) (sym end ∙ fitting text after e);
     }

@@ -1,8 +1,8 @@
 -- Laws of one pair, and of pairs read one after the other into two slices.
-use mathlib.Core.Path.{_≡_, refl, sym, ap, _∙_}
+use mathlib.Core.Path.{_≡_, refl, sym, _∙_}
 use mathlib.Core.Bool.{Bool, true, false, cond}
 use mathlib.Core.List.{List, [], _∷_, _++_, append-assoc, append-nil}
-use Prim.Native.Nat.{ℕ, zero, suc, _+_, _-_}
+use Prim.Native.Nat.{ℕ, zero, suc}
 use lib.Dec.{eqb}
 use Rattle.placement.specs.Items.{Item, item}
 use Rattle.plan_text.specs.Text.{space, opened, closed}
@@ -11,16 +11,16 @@ use Rattle.plan_text.specs.Capped.{saturated}
 use Rattle.plan_text.proofs.Pieces.{unparsed-parsed, byte-sound}
 use Rattle.reader.specs.declared.cursor.Cursor.{Cursor}
 use Rattle.reader.specs.declared.number.Number.{Number}
-use Rattle.reader.specs.Cursor.{place, valued, numberOf}
-use Rattle.reader.proofs.Pieces.{next-assoc, next-same, piece, piece-valued}
+use Rattle.reader.specs.Cursor.{place, valued, numberRead}
+use Rattle.reader.proofs.Pieces.{next-same, piece, piece-valued}
 
 -- One pair, piece by piece.
 pub pair-read :
     (text : List ℕ) (c a b e : Cursor) (f v : Number)
     → place text a ≡ next (place text c) (λ u t. byte opened t)
-    → numberOf text f ≡ next (place text a) (λ u t. number saturated t)
+    → numberRead text f ≡ next (place text a) (λ u t. number saturated t)
     → place text b ≡ next (place text (f .after)) (λ u t. byte space t)
-    → numberOf text v ≡ next (place text b) (λ u t. number saturated t)
+    → numberRead text v ≡ next (place text b) (λ u t. number saturated t)
     → place text e ≡ next (place text (v .after)) (λ u t. byte closed t)
     → valued (item (f .value) (v .value)) text e ≡ next (place text c) (λ u t. pair saturated t)
 pair-read text c a b e f v h₁ h₂ h₃ h₄ h₅ =
@@ -77,14 +77,6 @@ pairs-last (suc m) (parsed tt t) e =
     end-only (λ s. next (pair saturated s) (λ x after. next (pairs saturated m after) (λ xs end. parsed (x ∷ xs) end))) t e
 pairs-last m unparsed e = refl
 
--- Where a space follows, a pair and more pairs do.
-pub pairs-more :
-    (m : ℕ) (p : Parse (Unit {0})) (s : List ℕ) → next p (λ u t. byte space t) ≡ parsed tt s
-    → next p (λ u t. pairs saturated (suc m) t)
-    ≡ next (pair saturated s) (λ x after. next (pairs saturated m after) (λ xs end. parsed (x ∷ xs) end))
-pairs-more m (parsed tt t) s e = ap (λ (l : List ℕ). pairs saturated (suc m) l) (byte-sound space t s e)
-pairs-more m unparsed s e = unparsed-parsed e
-
 -- The pairs so far, before what the rest reads.
 abbrev pub readsOn : List Item → ℕ → Parse (Unit {0}) → Parse (List Item)
 readsOn before m p = next p (λ u t. next (pairs saturated m t) (λ xs end. parsed (before ++ xs) end))
@@ -102,40 +94,28 @@ pub readsOn-more :
     (before : List Item) (m : ℕ) (x : Item) (p q r : Parse (Unit {0})) (s : List ℕ)
     → q ≡ parsed tt s → q ≡ next p (λ u t. byte space t) → next r (λ u t. parsed x t) ≡ next q (λ u t. pair saturated t)
     → readsOn (before ++ (x ∷ [])) m r ≡ readsOn before (suc m) p
-readsOn-more before m x p q r s here spaced read =
-    next-same r
-    (λ u t. next (pairs saturated m t) (λ xs end. parsed ((before ++ (x ∷ [])) ++ xs) end))
-    (λ u t. next (pairs saturated m t) (λ xs end. parsed (before ++ (x ∷ xs)) end))
-    (λ u t.
-    next-same (pairs saturated m t)
-    (λ xs end. parsed ((before ++ (x ∷ [])) ++ xs) end)
-    (λ xs end. parsed (before ++ (x ∷ xs)) end)
-    (λ xs end. ap (λ (l : List Item). parsed l end) (append-assoc before (x ∷ []) xs)))
-    ∙ piece-valued x r q (pair saturated) (λ y t. next (pairs saturated m t) (λ xs end. parsed (before ++ (y ∷ xs)) end)) read
-    ∙ ap (λ (z : Parse (Unit {0})). next z (λ u t. next (pair saturated t) (λ y t. next (pairs saturated m t) (λ xs end. parsed (before ++ (y ∷ xs)) end)))) here
-    ∙ next-same (pair saturated s)
-    (λ y t. next (pairs saturated m t) (λ xs end. parsed (before ++ (y ∷ xs)) end))
-    (λ y t. next (next (pairs saturated m t) (λ xs end. parsed (y ∷ xs) end)) (λ xs end. parsed (before ++ xs) end))
-    (λ y t. sym (next-assoc (pairs saturated m t) (λ xs end. parsed (y ∷ xs) end) (λ xs end. parsed (before ++ xs) end)))
-    ∙ sym
-    (next-assoc (pair saturated s)
-    (λ y t. next (pairs saturated m t) (λ xs end. parsed (y ∷ xs) end))
-    (λ xs end. parsed (before ++ xs) end))
-    ∙ ap (λ (z : Parse (List Item)). next z (λ xs end. parsed (before ++ xs) end)) (sym (pairs-more m p s (sym spaced ∙ here)))
-    ∙ next-assoc p (λ u t. pairs saturated (suc m) t) (λ xs end. parsed (before ++ xs) end)
+readsOn-more before m x unparsed q r s here spaced read = unparsed-parsed (sym spaced ∙ here)
+readsOn-more before m x (parsed tt t) q r s here spaced read =
+    let first : next r (λ u t. parsed x t) ≡ pair saturated s = rw here at read in
+    rw (byte-sound space t s (sym spaced ∙ here), ← first) (more r)
+  where
+    one : (z : Parse (List Item)) → next z (λ xs end. parsed ((before ++ (x ∷ [])) ++ xs) end)
+        ≡ next (next z (λ xs end. parsed (x ∷ xs) end)) (λ xs end. parsed (before ++ xs) end)
+    one (parsed xs end) = rw append-assoc
+    one unparsed = refl
+
+    more : (r : Parse (Unit {0})) → readsOn (before ++ (x ∷ [])) m r
+        ≡ next (next (next r (λ u t. parsed x t)) (λ y t. next (pairs saturated m t) (λ xs end. parsed (y ∷ xs) end))) (λ xs end. parsed (before ++ xs) end)
+    more (parsed tt t) = one (pairs saturated m t)
+    more unparsed = refl
 
 -- The closing bracket ends the pairs, where no place is left or no space follows.
 pub readsOn-end :
     (before : List Item) (m : ℕ) (p q : Parse (Unit {0})) → next p (λ u t. pairs saturated m t) ≡ next p (λ u t. ending t)
     → q ≡ next p (λ u t. byte closed t) → next q (λ u t. parsed before t) ≡ readsOn before m p
-readsOn-end before m p q last e =
-    piece q p (byte closed) (λ t. parsed before t) e
-    ∙ next-same p
-    (λ u t. next (byte closed t) (λ v s. parsed before s))
-    (λ u t. next (ending t) (λ xs end. parsed (before ++ xs) end))
-    (λ u t.
-    next-same (byte closed t) (λ v s. parsed before s) (λ v s. parsed (before ++ []) s) (λ v s. ap (λ (l : List Item). parsed l s) (sym (append-nil before)))
-    ∙ sym (next-assoc (byte closed t) (λ v s. parsed [] s) (λ xs end. parsed (before ++ xs) end)))
-    ∙ sym (next-assoc p (λ u t. ending t) (λ xs end. parsed (before ++ xs) end))
-    ∙ ap (λ (z : Parse (List Item)). next z (λ xs end. parsed (before ++ xs) end)) (sym last)
-    ∙ next-assoc p (λ u t. pairs saturated m t) (λ xs end. parsed (before ++ xs) end)
+readsOn-end before m unparsed q last e = rw e
+readsOn-end before m (parsed tt t) q last e = rw (e, last) (none (byte closed t))
+  where
+    none : (z : Parse (Unit {0})) → next z (λ u s. parsed before s) ≡ next (closing z) (λ xs end. parsed (before ++ xs) end)
+    none (parsed tt s) = rw append-nil
+    none unparsed = refl

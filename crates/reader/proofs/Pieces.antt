@@ -7,9 +7,9 @@ use native.Mathlib.Numerals.{add-one}
 use lib.ListN.{length, drop, getD, drop-of-length-le}
 use lib.Seq.{drop-cons}
 use Rattle.plan_text.specs.Parse.{Parse, parsed, unparsed, next, byte, literal}
-use Rattle.plan_text.proofs.Choices.{cond-true, cond-false}
+use Rattle.placement.proofs.Conjunctions.{cond-true, cond-false}
 use Rattle.reader.specs.declared.cursor.Cursor.{Cursor}
-use Rattle.reader.specs.Cursor.{place}
+use Rattle.reader.specs.Cursor.{place, valued}
 
 -- The text from a position on is the byte there and the text behind it.
 pub from : (text : List ℕ) (at : ℕ) → at < length text → drop at text ≡ getD text at 0 ∷ drop (at + 1) text
@@ -81,3 +81,16 @@ fitting text c e = cond-true (c .fits) (parsed tt (drop (c .at) text)) unparsed 
 
 pub unfitting : (text : List ℕ) (c : Cursor) → c .fits ≡ false → place text c ≡ unparsed
 unfitting text c e = cond-false (c .fits) (parsed tt (drop (c .at) text)) unparsed e
+
+-- A value that was read before a cursor, by whether the cursor fits.
+pub line-parsed :
+    {A : Type 0} (text : List ℕ) (a : A) (c r : Cursor) (f : List ℕ → Parse A)
+    → valued a text r ≡ next (place text c) (λ u t. f t) → c .fits ≡ true → r .fits ≡ true
+    → f (drop (c .at) text) ≡ parsed a (drop (r .at) text)
+line-parsed text a c r f e g h = sym (going text c (λ u t. f t) g) ∙ sym e ∙ going text r (λ u t. parsed a t) h
+
+pub line-refused :
+    {A : Type 0} (text : List ℕ) (a : A) (c r : Cursor) (f : List ℕ → Parse A)
+    → valued a text r ≡ next (place text c) (λ u t. f t) → c .fits ≡ true → r .fits ≡ false
+    → f (drop (c .at) text) ≡ unparsed
+line-refused text a c r f e g h = sym (going text c (λ u t. f t) g) ∙ sym e ∙ stopped text r (λ u t. parsed a t) h

@@ -9,18 +9,18 @@ use Rattle.plan_text.specs.Reading.{Sizes, rackBody}
 use Rattle.plan_text.specs.Capped.{saturated}
 use Rattle.reader.specs.declared.cursor.Cursor.{Cursor}
 use Rattle.reader.specs.declared.number.Number.{Number}
-use Rattle.reader.specs.Cursor.{place, valued, numberOf}
+use Rattle.reader.specs.Cursor.{place, valued, numberRead}
 use Rattle.reader.proofs.Pieces.{piece, piece-valued}
 
 -- The rack's three numbers, piece by piece.
 pub rack-read :
     (text : List ℕ) (p a b c e : Cursor) (n k l : Number)
     → place text a ≡ next (place text p) (λ x t. literal (ascii "(rack ") t)
-    → numberOf text n ≡ next (place text a) (λ x t. number saturated t)
+    → numberRead text n ≡ next (place text a) (λ x t. number saturated t)
     → place text b ≡ next (place text (n .after)) (λ x t. byte space t)
-    → numberOf text k ≡ next (place text b) (λ x t. number saturated t)
+    → numberRead text k ≡ next (place text b) (λ x t. number saturated t)
     → place text c ≡ next (place text (k .after)) (λ x t. byte space t)
-    → numberOf text l ≡ next (place text c) (λ x t. number saturated t)
+    → numberRead text l ≡ next (place text c) (λ x t. number saturated t)
     → place text e ≡ next (place text (l .after)) (λ x t. byte closed t)
     → valued {A = Sizes} (record { disks = n .value; slots = k .value; streams = l .value }) text e
     ≡ next (place text p) (λ x t. rackBody saturated t)

@@ -1,31 +1,29 @@
--- Laws of pairs that stand at the front of two slices.
+-- Laws of pairs that stand at the front of a slice of entries.
 use mathlib.Core.Path.{_≡_, refl, sym, ap, _∙_}
-use mathlib.Core.List.{List, [], _∷_, _++_}
-use Prim.Native.Nat.{ℕ, suc, _+_, _-_, _<_}
+use mathlib.Core.List.{List, [], _∷_, _++_, map}
+use Prim.Native.Nat.{ℕ, _+_, _<_}
 use native.Mathlib.Omega.{arith}
 use native.Mathlib.Numerals.{add-one}
-use lib.ListN.{length, take, drop, set, length-take}
+use lib.ListN.{length, take, drop, set}
 use lib.Seq.{take-suc-set, drop-set-lt, drop-drop}
-use Rattle.placement.specs.Items.{Item, item}
-use Rattle.placement.specs.Held.{entries}
-use Rattle.reader.specs.Pairs.{front}
+use Rattle.placement.specs.Items.{Item}
+use Rattle.placement.specs.Tables.{entryOf, itemIn}
+use Rattle.placement.specs.Held.{front}
+use Rattle.placement.proofs.EntryNumbers.{item-entry}
 
-entries-append :
-    (fs vs : List ℕ) (f a : ℕ) → length fs ≡ length vs → entries (fs ++ (f ∷ [])) (vs ++ (a ∷ [])) ≡ entries fs vs ++ (item f a ∷ [])
-entries-append [] [] f a h = refl
-entries-append [] (y ∷ vs) f a h = absurd (omega arith)
-entries-append (x ∷ fs) [] f a h = absurd (omega arith)
-entries-append (x ∷ fs) (y ∷ vs) f a h = ap (λ (l : List Item). item x y ∷ l) (entries-append fs vs f a (omega arith))
+items-end : (entries : List ℕ) (e : ℕ) → map itemIn (entries ++ (e ∷ [])) ≡ map itemIn entries ++ (itemIn e ∷ [])
+items-end [] e = refl
+items-end (x ∷ entries) e = ap (λ (l : List Item). itemIn x ∷ l) (items-end entries e)
 
--- One entry more at the front of two slices.
+-- One entry more at the front of a slice.
 pub front-more :
-    (films amounts : List ℕ) (n f a : ℕ) → n < length films → n < length amounts
-    → front (n + 1) (set films n f) (set amounts n a) ≡ front n films amounts ++ (item f a ∷ [])
-front-more films amounts n f a g h =
-    ap (λ (m : ℕ). front m (set films n f) (set amounts n a)) (add-one n)
-    ∙ ap (λ (l : List ℕ). entries l (take (suc n) (set amounts n a))) (take-suc-set films n f g)
-    ∙ ap (λ (l : List ℕ). entries (take n films ++ (f ∷ [])) l) (take-suc-set amounts n a h)
-    ∙ entries-append (take n films) (take n amounts) f a (omega (arith, length-take n films, length-take n amounts))
+    (entries : List ℕ) (n : ℕ) (x : Item) → n < length entries → x .film < 4294967296
+    → front (n + 1) (set entries n (entryOf x)) ≡ front n entries ++ (x ∷ [])
+front-more entries n x h small =
+    ap (λ (m : ℕ). front m (set entries n (entryOf x))) (add-one n)
+    ∙ ap (map itemIn) (take-suc-set entries n (entryOf x) h)
+    ∙ items-end (take n entries) (entryOf x)
+    ∙ ap (λ (y : Item). front n entries ++ (y ∷ [])) (item-entry x small)
 
 -- The places behind the next one are as before.
 pub kept-more :

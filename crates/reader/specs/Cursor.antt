@@ -14,5 +14,5 @@ place text c = cond (c .fits) (parsed tt (drop (c .at) text)) unparsed
 abbrev pub valued : {A : Type 0} → A → List ℕ → Cursor → Parse A
 valued a text c = next (place text c) (λ u t. parsed a t)
 
-abbrev pub numberOf : List ℕ → Number → Parse ℕ
-numberOf text n = valued (n .value) text (n .after)
+abbrev pub numberRead : List ℕ → Number → Parse ℕ
+numberRead text n = valued (n .value) text (n .after)

@@ -9,12 +9,13 @@ use Rattle.plan_text.specs.Text.{lineFeed}
 use Rattle.plan_text.specs.Parse.{Parse, parsed, unparsed, next, byte}
 use Rattle.plan_text.specs.Reading.{Sizes, line, pairsBody}
 use Rattle.plan_text.specs.Capped.{saturated}
-use Rattle.placement.specs.declared.Rack.{Rack}
+use Rattle.placement.specs.Held.{front}
+use Rattle.placement.specs.declared.rack.Rack.{Rack}
 use Rattle.reader.specs.declared.cursor.Cursor.{Cursor}
 use Rattle.reader.specs.declared.line.RackLine.{RackLine}
 use Rattle.reader.specs.declared.line.PairsLine.{PairsLine}
 use Rattle.reader.specs.Cursor.{place, valued}
-use Rattle.reader.specs.Pairs.{front, Stored}
+use Rattle.reader.specs.Pairs.{Stored}
 
 -- A line feed, and the test of the line.
 abbrev pub lineEnd : Bool → List ℕ → Parse (Unit {0})
@@ -29,10 +30,10 @@ sizesOf text r = valued (sizes (r .rack)) text (r .after)
 
 -- A line of pairs behind a head, as many as there are places, with a test of them and their sum.
 pub record LineRead (head : List ℕ) (test : List Item → Bool) (text : List ℕ) (cursor : Cursor)
-    (films amounts films′ amounts′ : List ℕ) (r : PairsLine) : Type 0 where
+    (entries entries′ : List ℕ) (r : PairsLine) : Type 0 where
   pub reads :
-      valued (front (r .count) films′ amounts′) text (r .after)
-      ≡ next (place text cursor) (λ u t. line (pairsBody saturated head (length films)) test t)
-  pub stored : Stored (r .count) films amounts films′ amounts′
-  pub summed : r .sum ≡ total (front (r .count) films′ amounts′)
-  pub passed : r .after .fits ≡ true → test (front (r .count) films′ amounts′) ≡ true
+      valued (front (r .count) entries′) text (r .after)
+      ≡ next (place text cursor) (λ u t. line (pairsBody saturated head (length entries)) test t)
+  pub stored : Stored (r .count) entries entries′
+  pub summed : r .sum ≡ total (front (r .count) entries′)
+  pub passed : r .after .fits ≡ true → test (front (r .count) entries′) ≡ true

@@ -1,89 +1,63 @@
-// A call of reading, with tables to work in.
-use crate::ReadAnswer;
+// A call of reading, with tables of zeros to work in.
+use crate::answer::ReadAnswer;
 use crate::plan::read_lines;
-use crate::tables::has_room;
 use crate::tables::store;
-ghost use Rattle.reader.specs.Answers.{numbersOf, tablesOf};
-ghost use Rattle.reader.specs.Pass.{Workspace, Judged};
+use placement::room;
+use refusal::Refusal;
+ghost use mathlib.Core.Path.{_≡_};
+ghost use Rattle.placement.specs.Tables.{tables, ownTables};
+ghost use Rattle.plan_text.specs.ReadCall.{textVerdict};
+ghost use Rattle.reader.specs.Answers.{numbersOf};
+ghost use Rattle.reader.specs.Pass.{Judged};
 ghost use Rattle.reader.specs.Promise.{ReadPromise};
 
 // Document 01's most bytes of a text.
 const MOST_BYTES: usize = 65_536;
 
-// The judgement of a text; its plan is stored in tables whose copy places are zero.
+// The judgement of a text; its plan is stored in tables of zeros.
 pub(crate) fn judge(
     text: &[u8],
-    films: &mut [u32],
-    viewers: &mut [u32],
+    copies: &mut [u64],
     counts: &mut [u32],
-    leftfilms: &mut [u32],
-    leftamounts: &mut [u32],
+    left: &mut [u64],
 ) -> ReadAnswer
-    requires { ⌜ Workspace (tablesOf (now films) (now viewers) (now counts) (now leftfilms) (now leftamounts)) ⌝ }
-    ensures { λ r. ⌜ Judged (now (text .entry))
-        (tablesOf (now (films .entry)) (now (viewers .entry)) (now (counts .entry)) (now (leftfilms .entry)) (now (leftamounts .entry)))
-        (tablesOf (now (films .exit)) (now (viewers .exit)) (now (counts .exit)) (now (leftfilms .exit)) (now (leftamounts .exit)))
-        r ⌝ }
+    requires { ⌜ tables (now copies) (now counts) (now left) ≡ ownTables ⌝ }
+    ensures { λ r. ⌜ Judged (textVerdict (now (text .entry))) (tables (now (copies .entry)) (now (counts .entry)) (now (left .entry)))
+        (tables (now (copies .exit)) (now (counts .exit)) (now (left .exit))) r ⌝ }
 {
     if text.len() > MOST_BYTES {
-        return ReadAnswer::TextTooLong;
+        return ReadAnswer::Refused(Refusal::TextTooLong);
     }
-    read_lines(text, films, viewers, counts, leftfilms, leftamounts)
+    read_lines(text, copies, counts, left)
 }
 
 // The judgement of a text with lent tables; where they have room, its plan is stored in them.
 pub(crate) fn read_through(
     text: &[u8],
-    films: &mut [u32],
-    viewers: &mut [u32],
+    copies: &mut [u64],
     counts: &mut [u32],
-    leftfilms: &mut [u32],
-    leftamounts: &mut [u32],
-    workfilms: &mut [u32],
-    workviewers: &mut [u32],
+    left: &mut [u64],
+    workcopies: &mut [u64],
     workcounts: &mut [u32],
-    workleftfilms: &mut [u32],
-    workleftamounts: &mut [u32],
+    workleft: &mut [u64],
 ) -> ReadAnswer
-    requires { ⌜ Workspace (tablesOf (now workfilms) (now workviewers) (now workcounts) (now workleftfilms) (now workleftamounts)) ⌝ }
-    ensures { λ r. ⌜ ReadPromise (now (text .entry))
-        (tablesOf (now (films .entry)) (now (viewers .entry)) (now (counts .entry)) (now (leftfilms .entry)) (now (leftamounts .entry)))
-        (tablesOf (now (films .exit)) (now (viewers .exit)) (now (counts .exit)) (now (leftfilms .exit)) (now (leftamounts .exit)))
-        (numbersOf r) ⌝ }
+    requires { ⌜ tables (now workcopies) (now workcounts) (now workleft) ≡ ownTables ⌝ }
+    ensures { λ r. ⌜ ReadPromise (now (text .entry)) (tables (now (copies .entry)) (now (counts .entry)) (now (left .entry)))
+        (tables (now (copies .exit)) (now (counts .exit)) (now (left .exit))) (numbersOf r) ⌝ }
 {
-    let answer = judge(
-        text,
-        workfilms,
-        workviewers,
-        workcounts,
-        workleftfilms,
-        workleftamounts,
-    );
+    let answer = judge(text, workcopies, workcounts, workleft);
     let ReadAnswer::Plan(plan) = answer else {
         return answer;
     };
-    if !has_room(
-        plan,
-        films.len(),
-        viewers.len(),
+    if !room(
+        plan.rack,
+        plan.left as usize,
+        copies.len(),
         counts.len(),
-        leftfilms.len(),
-        leftamounts.len(),
+        left.len(),
     ) {
-        return ReadAnswer::TablesTooShort;
+        return ReadAnswer::Refused(Refusal::TablesTooShort);
     }
-    store(
-        plan,
-        workfilms,
-        workviewers,
-        workcounts,
-        workleftfilms,
-        workleftamounts,
-        films,
-        viewers,
-        counts,
-        leftfilms,
-        leftamounts,
-    );
+    store(plan, workcopies, workcounts, workleft, copies, counts, left);
     answer
 }

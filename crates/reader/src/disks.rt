@@ -16,29 +16,21 @@ pub(crate) fn disk_lines(
     text: &[u8],
     start: Cursor,
     rack: Rack,
-    films: &mut [u32],
-    viewers: &mut [u32],
+    copies: &mut [u64],
     counts: &mut [u32],
 ) -> DiskLines
-    requires { ⌜ DisksReady start rack (now films) (now viewers) (now counts) ⌝ }
-    ensures { λ r. ⌜ DisksRead (now (text .entry)) start rack (now (films .entry)) (now (viewers .entry)) (now (counts .entry))
-        (now (films .exit)) (now (viewers .exit)) (now (counts .exit)) r ⌝ }
+    requires { ⌜ DisksReady start rack (now copies) (now counts) ⌝ }
+    ensures { λ r. ⌜ DisksRead (now (text .entry)) start rack (now (copies .entry)) (now (counts .entry))
+        (now (copies .exit)) (now (counts .exit)) r ⌝ }
 {
-    let slots = rack.slots.0 as usize;
     let mut here = start;
     let mut served = 0u64;
+    let mut from = 0usize;
     let mut disk = 0u32;
     while disk < rack.disks {
-        let from = (disk as usize) * slots;
-        let to = from + slots;
-        let line = disk_line(
-            text,
-            here,
-            disk + 1,
-            rack,
-            &mut films[from..to],
-            &mut viewers[from..to],
-        );
+        let to = from + rack.slots.0 as usize;
+        let part = &mut copies[from..to];
+        let line = disk_line(text, here, disk + 1, rack.slots, rack.streams, part);
         let after = line.after;
         if !after.fits {
             return DiskLines {
@@ -50,6 +42,7 @@ pub(crate) fn disk_lines(
         counts[disk as usize] = line.count as u32;
         served += line.sum;
         here = after;
+        from = to;
         disk += 1;
     }
     DiskLines {

@@ -14,7 +14,8 @@ ghost use mathlib.Core.Bool.{true};
 ghost use lib.ListN.{length};
 ghost use Rattle.plan_text.specs.Parse.{next, literal};
 ghost use Rattle.plan_text.specs.Capped.{saturated};
-ghost use Rattle.plan_text.specs.Plan.{diskAccepted, leftAccepted};
+ghost use Rattle.placement.specs.Rack.{disk};
+ghost use Rattle.placement.specs.Plan.{diskAccepted, leftAccepted, mostLeft};
 ghost use Rattle.plan_text.specs.Text.{diskHead, leftHead, servedLine};
 ghost use Rattle.plan_text.specs.Reading.{line, rackBody, sizesAccepted};
 ghost use Rattle.reader.specs.Cursor.{place};
@@ -77,46 +78,34 @@ pub(crate) fn disk_line(
     text: &[u8],
     cursor: Cursor,
     number: u32,
-    rack: Rack,
-    films: &mut [u32],
-    viewers: &mut [u32],
+    slots: Slots,
+    streams: Streams,
+    copies: &mut [u64],
 ) -> PairsLine
-    requires { ⌜ (length (now films) ≡ rack .slots .0) × (length (now viewers) ≡ rack .slots .0) ⌝ }
-    ensures { λ r. ⌜ LineRead (diskHead number)
-        (diskAccepted (rack .slots .0) (rack .streams .0)) (now (text .entry)) cursor (now (films .entry))
-        (now (viewers .entry)) (now (films .exit)) (now (viewers .exit)) r ⌝ }
+    requires { ⌜ length (now copies) ≡ slots .0 ⌝ }
+    ensures { λ r. ⌜ LineRead (diskHead number) (diskAccepted (disk (slots .0) (streams .0))) (now (text .entry)) cursor
+        (now (copies .entry)) (now (copies .exit)) r ⌝ }
 {
     let opened = eat_all(text, cursor, b"(disk ");
     let headed = eat_number(text, opened, number as u64);
-    let pairs = read_pairs(text, headed, films, viewers);
+    let pairs = read_pairs(text, headed, copies);
     let count = pairs.count;
-    let sum = well_formed::total(&viewers[..count]);
-    let storable = well_formed::disk_accepted(
-        rack.slots.0,
-        rack.streams.0,
-        &films[..count],
-        &viewers[..count],
-    );
+    let sum = well_formed::total(&copies[..count]);
+    let storable = well_formed::disk_accepted(slots, streams, &copies[..count]);
     let after = end_line(text, pairs.after, storable);
     PairsLine { count, sum, after }
 }
 
 // The left line; its pairs are stored from the front.
-pub(crate) fn left_line(
-    text: &[u8],
-    cursor: Cursor,
-    films: &mut [u32],
-    amounts: &mut [u32],
-) -> PairsLine
-    requires { ⌜ (length (now films) ≡ 1024) × (length (now amounts) ≡ 1024) ⌝ }
-    ensures { λ r. ⌜ LineRead leftHead leftAccepted (now (text .entry)) cursor (now (films .entry)) (now (amounts .entry))
-        (now (films .exit)) (now (amounts .exit)) r ⌝ }
+pub(crate) fn left_line(text: &[u8], cursor: Cursor, left: &mut [u64]) -> PairsLine
+    requires { ⌜ length (now left) ≡ mostLeft ⌝ }
+    ensures { λ r. ⌜ LineRead leftHead leftAccepted (now (text .entry)) cursor (now (left .entry)) (now (left .exit)) r ⌝ }
 {
     let headed = eat_all(text, cursor, b"(left");
-    let pairs = read_pairs(text, headed, films, amounts);
+    let pairs = read_pairs(text, headed, left);
     let count = pairs.count;
-    let sum = well_formed::total(&amounts[..count]);
-    let accepted = well_formed::left_accepted(&films[..count], &amounts[..count]);
+    let sum = well_formed::total(&left[..count]);
+    let accepted = well_formed::left_accepted(&left[..count]);
     let after = end_line(text, pairs.after, accepted);
     PairsLine { count, sum, after }
 }

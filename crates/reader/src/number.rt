@@ -8,7 +8,7 @@ ghost use lib.ListN.{drop};
 ghost use Rattle.plan_text.specs.Decimal.{decimal};
 ghost use Rattle.plan_text.specs.Parse.{next, number, digits, literal};
 ghost use Rattle.plan_text.specs.Capped.{saturated};
-ghost use Rattle.reader.specs.Cursor.{place, numberOf};
+ghost use Rattle.reader.specs.Cursor.{place, numberRead};
 
 // The largest number that is told apart from larger ones.
 const MOST: u64 = 4_294_967_295;
@@ -32,7 +32,7 @@ fn with_digit(value: u32, digit: u32) -> u32
 
 // The number that the digits from a position on continue.
 fn digits_from(text: &[u8], start: usize, first: u32) -> Number
-    ensures { λ r. ⌜ numberOf (now (text .entry)) r ≡ digits saturated first (drop start (now (text .entry))) ⌝ }
+    ensures { λ r. ⌜ numberRead (now (text .entry)) r ≡ digits saturated first (drop start (now (text .entry))) ⌝ }
 {
     let mut at = start;
     let mut value = first;
@@ -55,7 +55,7 @@ fn digits_from(text: &[u8], start: usize, first: u32) -> Number
 
 // The number at the cursor; a 0 is a whole number.
 pub(crate) fn read_number(text: &[u8], cursor: Cursor) -> Number
-    ensures { λ r. ⌜ numberOf (now (text .entry)) r ≡ next (place (now (text .entry)) cursor) (λ u t. number saturated t) ⌝ }
+    ensures { λ r. ⌜ numberRead (now (text .entry)) r ≡ next (place (now (text .entry)) cursor) (λ u t. number saturated t) ⌝ }
 {
     let at = cursor.at;
     let stopped = Number {

@@ -2,8 +2,8 @@
 use crate::cursor::Cursor;
 use crate::cursor::eat;
 use crate::number::read_number;
+use placement::entry_of;
 ghost use mathlib.Core.Path.{_≡_};
-ghost use lib.ListN.{length};
 ghost use Rattle.plan_text.specs.Parse.{next, pair};
 ghost use Rattle.plan_text.specs.Capped.{saturated};
 ghost use Rattle.reader.specs.Cursor.{place};
@@ -38,19 +38,13 @@ pub(crate) fn read_pair(text: &[u8], cursor: Cursor) -> Pair
     }
 }
 
-// The pairs at the cursor, as many as the slices have places, stored from the front.
-pub(crate) fn read_pairs(
-    text: &[u8],
-    cursor: Cursor,
-    films: &mut [u32],
-    amounts: &mut [u32],
-) -> Pairs
-    requires { ⌜ length (now amounts) ≡ length (now films) ⌝ }
-    ensures { λ r. ⌜ PairsRead (now (text .entry)) cursor (now (films .entry)) (now (amounts .entry)) (now (films .exit)) (now (amounts .exit)) r ⌝ }
+// The pairs at the cursor, as many as there are places, stored from the front.
+pub(crate) fn read_pairs(text: &[u8], cursor: Cursor, entries: &mut [u64]) -> Pairs
+    ensures { λ r. ⌜ PairsRead (now (text .entry)) cursor (now (entries .entry)) (now (entries .exit)) r ⌝ }
 {
     let mut here = cursor;
     let mut n = 0;
-    while n < films.len() {
+    while n < entries.len() {
         let spaced = eat(text, here, b' ');
         if !spaced.fits {
             return Pairs {
@@ -59,8 +53,7 @@ pub(crate) fn read_pairs(
             };
         }
         let pair = read_pair(text, spaced);
-        films[n] = pair.film;
-        amounts[n] = pair.amount;
+        entries[n] = entry_of(pair.film, pair.amount);
         here = pair.after;
         n += 1;
     }

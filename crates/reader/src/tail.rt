@@ -13,50 +13,41 @@ pub struct TailLines {
 }
 
 // The lines behind those of the disks, which serve so many; the left films are stored from the front.
-pub(crate) fn tail_lines(
-    text: &[u8],
-    start: Cursor,
-    served: u64,
-    films: &mut [u32],
-    amounts: &mut [u32],
-) -> TailLines
-    requires { ⌜ TailReady start (now films) (now amounts) ⌝ }
-    ensures { λ r. ⌜ TailRead (now (text .entry)) start served (now (films .entry)) (now (amounts .entry)) (now (films .exit))
-        (now (amounts .exit)) r ⌝ }
+pub(crate) fn tail_lines(text: &[u8], start: Cursor, served: u64, left: &mut [u64]) -> TailLines
+    requires { ⌜ TailReady start (now left) ⌝ }
+    ensures { λ r. ⌜ TailRead (now (text .entry)) start served (now (left .entry)) (now (left .exit)) r ⌝ }
 {
-    let left = left_line(text, start, films, amounts);
-    let count = left.count;
-    let unserved = left.sum;
-    let behind = left.after;
+    let line = left_line(text, start, left);
+    let behind = line.after;
     if !behind.fits {
         return TailLines {
             lines: 0,
             fits: false,
-            count,
-            unserved,
+            count: line.count,
+            unserved: line.sum,
         };
     }
-    let end = served_line(text, behind, served, unserved);
+    let end = served_line(text, behind, served, line.sum);
     if !end.fits {
         return TailLines {
             lines: 1,
             fits: false,
-            count,
-            unserved,
+            count: line.count,
+            unserved: line.sum,
         };
     }
     if end.at < text.len() {
         return TailLines {
             lines: 2,
             fits: false,
-            count,
-            unserved,
+            count: line.count,
+            unserved: line.sum,
         };
     }
     TailLines {
         lines: 2,
         fits: true,
-        count,
-        unserved,
+        count: line.count,
+        unserved: line.sum,
     }
 }

@@ -6,14 +6,8 @@ use Rattle.reader.proofs.Classes.{digital-class}
 use Rattle.reader.proofs.class.is_digit.Statement.{statement}
 use Rattle.reader.proofs.class.is_digit.Tie as tie
 
-class-of-requires : tie.Need-class-of-requires
-class-of-requires c κs = search needs
-
-digit-class-requires : tie.Need-digit-class-requires
-digit-class-requires c κs = search needs
-
 returns : tie.Need-returns
 returns c = c .digit-class .ensures ∙ ap digital (c .before .class-of .ensures) ∙ digital-class (c .before .before .args .byte)
 
 pub is-digit-spec : {M : Type 1} → statement M
-is-digit-spec = tie.close (tie.spec class-of-requires digit-class-requires returns)
+is-digit-spec = tie.close (tie.spec (λ c κs. search needs) (λ c κs. search needs) returns)

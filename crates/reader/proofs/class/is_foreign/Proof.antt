@@ -5,14 +5,8 @@ use Rattle.reader.specs.Class.{foreign}
 use Rattle.reader.proofs.class.is_foreign.Statement.{statement}
 use Rattle.reader.proofs.class.is_foreign.Tie as tie
 
-class-of-requires : tie.Need-class-of-requires
-class-of-requires c κs = search needs
-
-foreign-class-requires : tie.Need-foreign-class-requires
-foreign-class-requires c κs = search needs
-
 returns : tie.Need-returns
 returns c = c .foreign-class .ensures ∙ ap foreign (c .before .class-of .ensures)
 
 pub is-foreign-spec : {M : Type 1} → statement M
-is-foreign-spec = tie.close (tie.spec class-of-requires foreign-class-requires returns)
+is-foreign-spec = tie.close (tie.spec (λ c κs. search needs) (λ c κs. search needs) returns)

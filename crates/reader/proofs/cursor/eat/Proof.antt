@@ -17,30 +17,25 @@ returns-2 c =
     let a = c .before .before .before .before .args in
     eat-end (a .text .now) (a .cursor) (a .expected) (not-false (a .cursor .fits) (c .before .if1 .left)) (c .if2 .taken)
 
-shared-slice-read-found : tie.Need-shared-slice-read-found
-shared-slice-read-found c = search needs
-
-is-foreign-requires : tie.Need-is-foreign-requires
-is-foreign-requires c κs = search needs
-
 returns-3 : tie.Need-returns-3
 returns-3 c =
-    let a = c .before .before .before .before .before .before .before .args in
-    eat-other (a .text .now) (a .cursor) (a .expected) (not-false (a .cursor .fits) (c .before .before .before .before .if1 .left)) (c .before .before .before .if2 .left)
-    (foreign-other (getD (a .text .now) (a .cursor .at) 0) (a .expected) (sym (c .before .is-foreign .ensures) ∙ c .if3 .taken) (c .before .before .before .before .before .before .before .pre))
+    let at-byte = c .before .before .before in
+    let at-start = at-byte .before .before .before .before in
+    let a = at-start .args in
+    eat-other (a .text .now) (a .cursor) (a .expected) (not-false (a .cursor .fits) (at-byte .before .if1 .left)) (at-byte .if2 .left)
+    (foreign-other (getD (a .text .now) (a .cursor .at) 0) (a .expected) (sym (c .before .is-foreign .ensures) ∙ c .if3 .taken) (at-start .pre))
 
 returns-4 : tie.Need-returns-4
 returns-4 c =
-    let a = c .before .before .before .before .before .before .before .before .args in
-    eat-other (a .text .now) (a .cursor) (a .expected) (not-false (a .cursor .fits) (c .before .before .before .before .before .if1 .left)) (c .before .before .before .before .if2 .left) (c .if4 .taken)
-
-add-t7 : tie.Need-add-t7
-add-t7 c = search needs
+    let at-byte = c .before .before .before .before in
+    let a = at-byte .before .before .before .before .args in
+    eat-other (a .text .now) (a .cursor) (a .expected) (not-false (a .cursor .fits) (at-byte .before .if1 .left)) (at-byte .if2 .left) (c .if4 .taken)
 
 returns-5 : tie.Need-returns-5
 returns-5 c =
-    let a = c .before .before .before .before .before .before .before .before .args in
-    eat-same (a .text .now) (a .cursor) (a .expected) (not-false (a .cursor .fits) (c .before .before .before .before .before .if1 .left)) (c .before .before .before .before .if2 .left) (c .if4 .left)
+    let at-byte = c .before .before .before .before in
+    let a = at-byte .before .before .before .before .args in
+    eat-same (a .text .now) (a .cursor) (a .expected) (not-false (a .cursor .fits) (at-byte .before .if1 .left)) (at-byte .if2 .left) (c .if4 .left)
 
 pub eat-spec : {M : Type 1} → statement M
 eat-spec =
@@ -48,9 +43,9 @@ eat-spec =
     (tie.spec
     returns
     returns-2
-    shared-slice-read-found
-    is-foreign-requires
+    (λ c. search needs)
+    (λ c κs. search needs)
     returns-3
     returns-4
-    add-t7
+    (λ c. search needs)
     returns-5)

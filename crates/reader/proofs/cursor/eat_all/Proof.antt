@@ -26,7 +26,9 @@ shared-slice-read-eat c = omega arith
 
 eat-requires : tie.Need-eat-requires Inv-loop μ-loop
 eat-requires c κs =
-    noneForeign-at (c .before .before .before .before .before .args .expected .now) (c .before .before .loop .i) (c .before .before .before .before .before .pre) (omega arith)
+    let at-loop = c .before .before in
+    let at-start = at-loop .before .before .before in
+    noneForeign-at (at-start .args .expected .now) (at-loop .loop .i) (at-start .pre) (omega arith)
 
 add-i : tie.Need-add-i Inv-loop μ-loop
 add-i c = omega arith
@@ -36,11 +38,12 @@ loop-less c = omega arith
 
 loop-again : tie.Need-loop-again Inv-loop μ-loop
 loop-again c =
-    let a = c .before .before .before .before .before .before .args in
-    let i = c .before .before .before .loop .i in (
+    let at-loop = c .before .before .before in
+    let a = at-loop .before .before .before .args in
+    let l = at-loop .loop in (
       omega arith,
-      literal-more (a .expected .now) i (place (a .text .now) (c .eat .result)) (place (a .text .now) (c .before .before .before .loop .here)) (omega arith) (c .eat .ensures)
-          ∙ c .before .before .before .loop .inv .1,
+      literal-more (a .expected .now) (l .i) (place (a .text .now) (c .eat .result)) (place (a .text .now) (l .here)) (omega arith) (c .eat .ensures)
+          ∙ l .inv .1,
     )
 
 returns : tie.Need-returns Inv-loop μ-loop

@@ -4,12 +4,6 @@ use Rattle.reader.proofs.Lines.{line-end}
 use Rattle.reader.proofs.line.end_line.Statement.{statement}
 use Rattle.reader.proofs.line.end_line.Tie as tie
 
-eat-requires : tie.Need-eat-requires
-eat-requires c κs = search needs
-
-provided-requires : tie.Need-provided-requires
-provided-requires c κs = search needs
-
 returns : tie.Need-returns
 returns c =
     let a = c .before .before .before .args in
@@ -17,4 +11,4 @@ returns c =
     (c .provided .ensures .0) (c .provided .ensures .1)
 
 pub end-line-spec : {M : Type 1} → statement M
-end-line-spec = tie.close (tie.spec eat-requires provided-requires returns)
+end-line-spec = tie.close (tie.spec (λ c κs. search needs) (λ c κs. search needs) returns)

@@ -5,30 +5,25 @@ use mathlib.Core.Bool.{Bool}
 use Rattle.plan_text.specs.Parse.{next}
 use Rattle.plan_text.specs.Reading.{rackBody, sizesAccepted}
 use Rattle.plan_text.specs.Capped.{saturated}
+use Rattle.placement.proofs.Racks.{rack-accepted}
 use Rattle.reader.specs.Cursor.{place}
 use Rattle.reader.specs.Line.{sizes, lineEnd}
 use Rattle.reader.proofs.Lines.{line-read}
 use Rattle.reader.proofs.line.rack_line.Statement.{statement}
 use Rattle.reader.proofs.line.rack_line.Tie as tie
 
-read-rack-requires : tie.Need-read-rack-requires
-read-rack-requires c κs = search needs
-
-accepted-requires : tie.Need-accepted-requires
-accepted-requires c κs = search needs
-
-end-line-requires : tie.Need-end-line-requires
-end-line-requires c κs = search needs
-
 returns : tie.Need-returns
 returns c =
-    let a = c .before .before .before .before .before .args in
-    let body = c .before .before .before .read-rack in
-    line-read (sizes (body .result .rack)) (rackBody saturated) sizesAccepted (place (a .text .now) (c .end-line .result))
+    let at-body = c .before .before .before in
+    let a = at-body .before .before .args in
+    let body = at-body .read-rack in
+    let rack = body .result .rack in
+    line-read (sizes rack) (rackBody saturated) sizesAccepted (place (a .text .now) (c .end-line .result))
     (place (a .text .now) (body .result .after)) (place (a .text .now) (a .cursor)) (body .ensures)
     (c .end-line .ensures
-    ∙ ap (λ (b : Bool). next (place (a .text .now) (body .result .after)) (λ u t. lineEnd b t)) (c .before .accepted .ensures))
+    ∙ ap (λ (b : Bool). next (place (a .text .now) (body .result .after)) (λ u t. lineEnd b t))
+    (c .before .accepted .ensures ∙ rack-accepted (rack .disks) (rack .slots .0) (rack .streams .0)))
 
 pub rack-line-spec : {M : Type 1} → statement M
 rack-line-spec =
-    tie.close (tie.spec read-rack-requires accepted-requires end-line-requires returns)
+    tie.close (tie.spec (λ c κs. search needs) (λ c κs. search needs) (λ c κs. search needs) returns)

@@ -5,45 +5,28 @@ use Rattle.reader.proofs.Lines.{served-read}
 use Rattle.reader.proofs.line.served_line.Statement.{statement}
 use Rattle.reader.proofs.line.served_line.Tie as tie
 
-slice-aggregate-eat-all : tie.Need-slice-aggregate-eat-all
-slice-aggregate-eat-all c = search needs
-
-eat-all-requires : tie.Need-eat-all-requires
-eat-all-requires c κs = search needs
-
-eat-number-requires : tie.Need-eat-number-requires
-eat-number-requires c κs = search needs
-
-eat-requires : tie.Need-eat-requires
-eat-requires c κs = search needs
-
-eat-number-requires-2 : tie.Need-eat-number-requires-2
-eat-number-requires-2 c κs = search needs
-
-eat-requires-2 : tie.Need-eat-requires-2
-eat-requires-2 c κs = search needs
-
-end-line-requires : tie.Need-end-line-requires
-end-line-requires c κs = search needs
-
 returns : tie.Need-returns
 returns c =
-    let a = c .before .before .before .before .before .before .before .before .args in
-    served-read (a .served) (a .unserved) (place (a .text .now) (a .cursor)) (place (a .text .now) (c .before .before .before .before .before .eat-all .result))
-    (place (a .text .now) (c .before .before .before .before .eat-number .result)) (place (a .text .now) (c .before .before .before .eat .result))
-    (place (a .text .now) (c .before .before .eat-number2 .result)) (place (a .text .now) (c .before .eat2 .result))
-    (place (a .text .now) (c .end-line .result)) (c .before .before .before .before .before .eat-all .ensures) (c .before .before .before .before .eat-number .ensures) (c .before .before .before .eat .ensures)
-    (c .before .before .eat-number2 .ensures) (c .before .eat2 .ensures) (c .end-line .ensures)
+    let at-closed = c .before in
+    let at-space = at-closed .before .before in
+    let at-head = at-space .before .before in
+    let a = at-head .before .before .before .args in
+    let text = a .text .now in
+    served-read (a .served) (a .unserved) (place text (a .cursor)) (place text (at-head .eat-all .result))
+    (place text (at-space .before .eat-number .result)) (place text (at-space .eat .result))
+    (place text (at-closed .before .eat-number2 .result)) (place text (at-closed .eat2 .result)) (place text (c .end-line .result))
+    (at-head .eat-all .ensures) (at-space .before .eat-number .ensures) (at-space .eat .ensures)
+    (at-closed .before .eat-number2 .ensures) (at-closed .eat2 .ensures) (c .end-line .ensures)
 
 pub served-line-spec : {M : Type 1} → statement M
 served-line-spec =
     tie.close
     (tie.spec
-    slice-aggregate-eat-all
-    eat-all-requires
-    eat-number-requires
-    eat-requires
-    eat-number-requires-2
-    eat-requires-2
-    end-line-requires
+    (λ c. search needs)
+    (λ c κs. search needs)
+    (λ c κs. search needs)
+    (λ c κs. search needs)
+    (λ c κs. search needs)
+    (λ c κs. search needs)
+    (λ c κs. search needs)
     returns)

@@ -1,7 +1,7 @@
 -- `reader::number::digits_from` meets its contract. The invariant: the digits from `at` on continue `value` to the same number.
 use mathlib.Core.Path.{_≡_, refl, sym, ap, _∙_}
 use mathlib.Core.Bool.{true}
-use Prim.Native.Nat.{ℕ, _≤_, _-_, _+_}
+use Prim.Native.Nat.{ℕ, _-_, _+_}
 use native.Mathlib.Omega.{arith}
 use borrow.Author.Tests.{not-true, not-false}
 use borrow.Author.Needs.{needs}
@@ -25,36 +25,28 @@ loop-holds c = refl
 shared-slice-read-byte : tie.Need-shared-slice-read-byte Inv-loop μ-loop
 shared-slice-read-byte c = omega arith
 
-is-digit-requires : tie.Need-is-digit-requires Inv-loop μ-loop
-is-digit-requires c κs = search needs
-
 returns : tie.Need-returns Inv-loop μ-loop
 returns c =
-    let a = c .before .before .before .before .before .before .args in
-    let at = c .before .before .before .before .loop .at in
-    let n = c .before .before .before .before .loop .value in
-    digits-stop (a .text .now) at n (omega arith)
+    let at-loop = c .before .before .before .before in
+    let l = at-loop .loop in
+    digits-stop (at-loop .before .before .args .text .now) (l .at) (l .value) (omega arith)
     (sym (c .before .is-digit .ensures) ∙ not-true (c .before .is-digit .result) (c .if1 .taken))
-    ∙ c .before .before .before .before .loop .inv
+    ∙ l .inv
 
 -- the byte is a digit
-is-there :
-    (c : tie.Else1 Inv-loop μ-loop)
-    → isDigit (getD (c .before .before .before .before .before .before .args .text .now) (c .before .before .before .before .loop .at) 0) ≡ true
+abbrev byteAt : tie.Else1 Inv-loop μ-loop → ℕ
+byteAt c =
+    let at-loop = c .before .before .before .before in
+    getD (at-loop .before .before .args .text .now) (at-loop .loop .at) 0
+
+is-there : (c : tie.Else1 Inv-loop μ-loop) → isDigit (byteAt c) ≡ true
 is-there c = sym (c .before .is-digit .ensures) ∙ not-false (c .before .is-digit .result) (c .if1 .left)
 
-digit-there :
-    (c : tie.Else1 Inv-loop μ-loop) → 48 ≤ getD (c .before .before .before .before .before .before .args .text .now) (c .before .before .before .before .loop .at) 0
-digit-there c = digit-least (getD (c .before .before .before .before .before .before .args .text .now) (c .before .before .before .before .loop .at) 0) (is-there c)
-
 sub-with-digit : tie.Need-sub-with-digit Inv-loop μ-loop
-sub-with-digit c = digit-there c
+sub-with-digit c = digit-least (byteAt c) (is-there c)
 
 cast-with-digit : tie.Need-cast-with-digit Inv-loop μ-loop
 cast-with-digit c = omega (arith, c .before .before .shared-slice-known2 .given (c .before .before .before .before .loop .at))
-
-with-digit-requires : tie.Need-with-digit-requires Inv-loop μ-loop
-with-digit-requires c κs = search needs
 
 add-at : tie.Need-add-at Inv-loop μ-loop
 add-at c = omega arith
@@ -64,12 +56,12 @@ loop-less c = omega arith
 
 loop-again : tie.Need-loop-again Inv-loop μ-loop
 loop-again c =
-    let a = c .before .before .before .before .before .before .before .args in
-    let at = c .before .before .before .before .before .loop .at in
-    let n = c .before .before .before .before .before .loop .value in
-    ap (λ (v : ℕ). digits saturated v (drop (at + 1) (a .text .now))) (c .with-digit .ensures)
-    ∙ sym (digits-more (a .text .now) at n (omega arith) (is-there (c .before)))
-    ∙ c .before .before .before .before .before .loop .inv
+    let at-loop = c .before .before .before .before .before in
+    let text = at-loop .before .before .args .text .now in
+    let l = at-loop .loop in
+    ap (λ (v : ℕ). digits saturated v (drop (l .at + 1) text)) (c .with-digit .ensures)
+    ∙ sym (digits-more text (l .at) (l .value) (omega arith) (is-there (c .before)))
+    ∙ l .inv
 
 returns-2 : tie.Need-returns-2 Inv-loop μ-loop
 returns-2 c =
@@ -84,11 +76,11 @@ digits-from-spec =
     μ-loop
     loop-holds
     shared-slice-read-byte
-    is-digit-requires
+    (λ c κs. search needs)
     returns
     sub-with-digit
     cast-with-digit
-    with-digit-requires
+    (λ c κs. search needs)
     add-at
     loop-less
     loop-again

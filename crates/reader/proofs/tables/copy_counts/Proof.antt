@@ -1,13 +1,13 @@
--- `reader::tables::copy_front` meets its contract. The invariant: the first `i` places are taken over, the others are as at entry.
+-- `reader::tables::copy_counts` meets its contract. The invariant: the first `i` places are taken over, the others are as at entry.
 use mathlib.Core.Path.{_≡_, refl, ap, _∙_}
 use mathlib.Core.List.{List}
 use Prim.Native.Nat.{ℕ, _≤_, _<_, _-_}
 use native.Mathlib.Omega.{arith}
 use lib.ListN.{length, set, getD, length-set}
+use Rattle.placement.proofs.Written.{overwritten-more}
 use Rattle.reader.specs.Stored.{frontCopied}
-use Rattle.reader.proofs.Fronts.{copied-one}
-use Rattle.reader.proofs.tables.copy_front.Statement.{statement}
-use Rattle.reader.proofs.tables.copy_front.Tie as tie
+use Rattle.reader.proofs.tables.copy_counts.Statement.{statement}
+use Rattle.reader.proofs.tables.copy_counts.Tie as tie
 
 abbrev Inv-loop : tie.InvT-loop
 Inv-loop from n to₀ i₀ to i = (length to ≡ length to₀) × (i ≤ n) × (to ≡ frontCopied i from to₀)
@@ -38,14 +38,16 @@ loop-less c = omega arith
 
 loop-again : tie.Need-loop-again Inv-loop μ-loop
 loop-again c =
-    let a = c .before .before .before .args in
-    let l = c .before .before .loop in
-    let inFrom : l .i < length (a .from .now) = omega (arith, c .before .before .before .pre) in
-    let inTo : l .i < length (a .to .now) = omega (arith, c .before .before .before .pre) in (
-      length-set (l .to) (l .i) (getD (a .from .now) (l .i) 0) ∙ l .inv .0,
+    let at-loop = c .before .before in
+    let at-start = at-loop .before in
+    let from = at-start .args .from .now in
+    let l = at-loop .loop in
+    let inFrom : l .i < length from = omega (arith, at-start .pre) in
+    let inTo : l .i < length (at-start .args .to .now) = omega (arith, at-start .pre) in (
+      length-set (l .to) (l .i) (getD from (l .i) 0) ∙ l .inv .0,
       omega arith,
-      ap (λ (x : List ℕ). set x (l .i) (getD (a .from .now) (l .i) 0)) (l .inv .2)
-          ∙ copied-one (a .from .now) (a .to .now) (l .i) inFrom inTo,
+      ap (λ (x : List ℕ). set x (l .i) (getD from (l .i) 0)) (l .inv .2)
+          ∙ overwritten-more from (at-start .args .to .now) (l .i) inFrom inTo,
     )
 
 same-length : tie.Need-same-length Inv-loop μ-loop
@@ -58,8 +60,8 @@ returns c =
     let all : l .i ≡ a .n = omega arith in
     l .inv .2 ∙ ap (λ (i : ℕ). frontCopied i (a .from .now) (a .to .now)) all
 
-pub copy-front-spec : {M : Type 1} → statement M
-copy-front-spec =
+pub copy-counts-spec : {M : Type 1} → statement M
+copy-counts-spec =
     tie.close
     (tie.spec
     Inv-loop
