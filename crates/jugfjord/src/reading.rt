@@ -1,12 +1,12 @@
 // Reading for C.
-use reader::PlanRead;
 use reader::ReadAnswer;
+use refusal::Refusal;
 ghost use mathlib.Core.Path.{_≡_};
 ghost use Rattle.placement.specs.Tables.{tables};
-ghost use Rattle.reader.specs.Answers.{numbersOf, refusal};
+ghost use Rattle.reader.specs.Answers.{numbersOf};
 ghost use Rattle.reader.specs.Promise.{ReadPromise};
-ghost use Rattle.reader.specs.declared.ReadAnswer.the-variants.{Plan};
-ghost use Rattle.jugfjord.specs.Numbers.{readNumbers};
+ghost use Rattle.reader.specs.declared.answer.ReadAnswer.the-variants.{Refused};
+ghost use Rattle.jugfjord.specs.Numbers.{readFields};
 
 // `struct jugfjord_read_plan` of the header.
 #[repr(C)]
@@ -22,9 +22,11 @@ pub struct ReadPlan {
 }
 
 // The numbers of a refusal.
-fn declined(number: u32, second: u32) -> ReadPlan
-    ensures { λ r. ⌜ readNumbers r ≡ refusal number second ⌝ }
+fn declined(refusal: Refusal) -> ReadPlan
+    ensures { λ r. ⌜ readFields r ≡ numbersOf (Refused refusal) ⌝ }
 {
+    let number = refusal::number(refusal);
+    let second = refusal::second(refusal);
     ReadPlan {
         number,
         second,
@@ -37,32 +39,22 @@ fn declined(number: u32, second: u32) -> ReadPlan
     }
 }
 
-// The numbers of a plan that was read.
-fn accepted(plan: PlanRead) -> ReadPlan
-    ensures { λ r. ⌜ readNumbers r ≡ numbersOf (Plan plan) ⌝ }
-{
-    let rack = plan.rack;
-    ReadPlan {
-        number: 0,
-        second: 0,
-        disks: rack.disks,
-        slots: rack.slots.0,
-        streams: rack.streams.0,
-        left: plan.left,
-        served: plan.served,
-        unserved: plan.unserved,
-    }
-}
-
 // The numbers of reading's answer.
 fn read_numbers(answer: ReadAnswer) -> ReadPlan
-    ensures { λ r. ⌜ readNumbers r ≡ numbersOf answer ⌝ }
+    ensures { λ r. ⌜ readFields r ≡ numbersOf answer ⌝ }
 {
     match answer {
-        ReadAnswer::Plan(plan) => accepted(plan),
-        ReadAnswer::TextTooLong => declined(8, 0),
-        ReadAnswer::Line(line) => declined(9, line),
-        ReadAnswer::TablesTooShort => declined(7, 0),
+        ReadAnswer::Plan(plan) => ReadPlan {
+            number: 0,
+            second: 0,
+            disks: plan.rack.disks,
+            slots: plan.rack.slots.0,
+            streams: plan.rack.streams.0,
+            left: plan.left,
+            served: plan.served,
+            unserved: plan.unserved,
+        },
+        ReadAnswer::Refused(refusal) => declined(refusal),
     }
 }
 
@@ -70,16 +62,14 @@ fn read_numbers(answer: ReadAnswer) -> ReadPlan
 #[no_mangle]
 pub extern "C" fn jugfjord_read(
     text: &[u8],
-    films: &mut [u32],
-    viewers: &mut [u32],
+    copies: &mut [u64],
     counts: &mut [u32],
-    leftfilms: &mut [u32],
-    leftamounts: &mut [u32],
+    left: &mut [u64],
 ) -> ReadPlan
     ensures { λ r. ⌜ ReadPromise (now (text .entry))
-        (tables (now (films .entry)) (now (viewers .entry)) (now (counts .entry)) (now (leftfilms .entry)) (now (leftamounts .entry)))
-        (tables (now (films .exit)) (now (viewers .exit)) (now (counts .exit)) (now (leftfilms .exit)) (now (leftamounts .exit)))
-        (readNumbers r) ⌝ }
+        (tables (now (copies .entry)) (now (counts .entry)) (now (left .entry)))
+        (tables (now (copies .exit)) (now (counts .exit)) (now (left .exit)))
+        (readFields r) ⌝ }
 {
-    read_numbers(reader::read(text, films, viewers, counts, leftfilms, leftamounts))
+    read_numbers(reader::read(text, copies, counts, left))
 }

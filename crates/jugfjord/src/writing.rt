@@ -2,12 +2,16 @@
 use placement::Rack;
 use placement::Slots;
 use placement::Streams;
+use refusal::Refusal;
 use writer::Written;
 ghost use mathlib.Core.Path.{_≡_};
+ghost use Rattle.placement.specs.Rack.{rackOf};
 ghost use Rattle.placement.specs.Tables.{tables};
-ghost use Rattle.writer.specs.Answers.{numbersOf, refusedWith};
+ghost use Rattle.plan_text.specs.WriteCall.{writeCall};
+ghost use Rattle.writer.specs.Answers.{writtenNumbers};
 ghost use Rattle.writer.specs.WritePromise.{WritePromise};
-ghost use Rattle.jugfjord.specs.Numbers.{writtenNumbers, writeCall};
+ghost use Rattle.writer.specs.declared.answer.Written.the-variants.{Refused};
+ghost use Rattle.jugfjord.specs.Numbers.{writtenFields};
 
 // `struct jugfjord_written` of the header.
 #[repr(C)]
@@ -18,19 +22,21 @@ pub struct WrittenNumbers {
 }
 
 // The numbers of a refusal.
-fn declined(number: u32) -> WrittenNumbers
-    ensures { λ r. ⌜ writtenNumbers r ≡ refusedWith number ⌝ }
+fn declined(refusal: Refusal) -> WrittenNumbers
+    ensures { λ r. ⌜ writtenFields r ≡ writtenNumbers (Refused refusal) ⌝ }
 {
+    let number = refusal::number(refusal);
+    let second = refusal::second(refusal);
     WrittenNumbers {
         number,
-        second: 0,
+        second,
         length: 0,
     }
 }
 
 // The numbers of writing's answer.
 fn written_numbers(answer: Written) -> WrittenNumbers
-    ensures { λ r. ⌜ writtenNumbers r ≡ numbersOf answer ⌝ }
+    ensures { λ r. ⌜ writtenFields r ≡ writtenNumbers answer ⌝ }
 {
     match answer {
         Written::Length(length) => WrittenNumbers {
@@ -38,10 +44,7 @@ fn written_numbers(answer: Written) -> WrittenNumbers
             second: 0,
             length,
         },
-        Written::RackOutOfRange => declined(1),
-        Written::TablesTooShort => declined(7),
-        Written::NotWellFormed => declined(10),
-        Written::SpaceTooShort => declined(11),
+        Written::Refused(refusal) => declined(refusal),
     }
 }
 
@@ -51,31 +54,20 @@ pub extern "C" fn jugfjord_write(
     disks: u32,
     slots: u32,
     streams: u32,
-    films: &[u32],
-    viewers: &[u32],
+    copies: &[u64],
     counts: &[u32],
-    leftfilms: &[u32],
-    leftamounts: &[u32],
-    left: u32,
+    left: &[u64],
+    left_films: u32,
     text: &mut [u8],
 ) -> WrittenNumbers
     ensures { λ r. ⌜ WritePromise
-        (writeCall disks slots streams (tables (now (films .entry)) (now (viewers .entry)) (now (counts .entry)) (now (leftfilms .entry)) (now (leftamounts .entry))) left)
-        (now (text .entry)) (now (text .exit)) (writtenNumbers r) ⌝ }
+        (writeCall (rackOf disks slots streams) (tables (now (copies .entry)) (now (counts .entry)) (now (left .entry))) «left_films»)
+        (now (text .entry)) (now (text .exit)) (writtenFields r) ⌝ }
 {
     let rack = Rack {
         disks,
         slots: Slots(slots),
         streams: Streams(streams),
     };
-    written_numbers(writer::write(
-        rack,
-        films,
-        viewers,
-        counts,
-        leftfilms,
-        leftamounts,
-        left,
-        text,
-    ))
+    written_numbers(writer::write(rack, copies, counts, left, left_films, text))
 }

@@ -1,63 +1,56 @@
--- What planning's answer and tables say of its verdict, and of what is printed.
-use mathlib.Core.Path.{_≡_, refl, ap, _∙_}
+-- What planning's answer says of its verdict, and of what is printed.
+use mathlib.Core.Path.{_≡_, refl, sym, ap, _∙_}
 use Prim.Native.Nat.{ℕ, _≤_}
 use native.Mathlib.Omega.{arith}
 use lib.ListN.{length}
-use Rattle.placement.specs.Records.{Verdict, planned, refused}
-use Rattle.placement.specs.Tables.{Tables}
-use Rattle.placement.specs.Planning.{Call, Numbers, verdict, answerFor, tablesFor, planning, tablesAfter, leftIn}
-use Rattle.plan_text.specs.Refusal.{refusalText}
-use Rattle.planner.specs.declared.Answer.{Answer}
-use Rattle.planner.specs.declared.Answer.the-variants.{Planned, RackOutOfRange, ListLength, TooManyRecords, TablesTooShort, FilmOutOfRange, DemandOutOfRange, FilmRepeated}
-use Rattle.planner.specs.Answers.{numbersOf}
-use Rattle.planner.proofs.Answered.{Refusing}
-use Rattle.plan_output.specs.Output.{printed}
+use Rattle.refusal.specs.Verdict.{Verdict, given, refused, Numbers}
+use Rattle.refusal.specs.Numbers.{numberOf, secondOf}
+use Rattle.refusal.specs.declared.Refusal.{Refusal}
+use Rattle.placement.specs.Tables.{Tables, ownTables}
+use Rattle.placement.specs.Planning.{Call, PlanSums, verdict, planIn, answerFor, holdingCall, tablesFor, planning, tablesAfter}
+use Rattle.placement.specs.PlanPromise.{PlanPromise}
+use Rattle.plan_text.specs.RefusalLine.{refusalText}
+use Rattle.planner.specs.declared.answer.Answer.{Answer}
+use Rattle.planner.specs.declared.answer.Answer.the-variants.{Planned, Refused}
+use Rattle.planner.specs.Answers.{planNumbers}
+use Rattle.refusal.proofs.Refusals.{number-some}
+use Rattle.plan_output.specs.Output.{printed, printedFor}
 use Rattle.plan_output.proofs.Small.{Small, small-verdict}
 
-abbrev refusalIn : Numbers → ℕ
+abbrev refusalIn : Numbers PlanSums → ℕ
 refusalIn n = n .refusal
 
-abbrev leftNumber : Numbers → ℕ
-leftNumber n = n .left
+-- A call, tables that are the program's own, and what planning promises of its answer.
+module _ (c : Call) (a : Answer) {before after : Tables} (own : before ≡ ownTables) (promise : PlanPromise c before after (planNumbers a)) where
+  answered : planNumbers a ≡ planning c ownTables
+  answered = promise .numbers ∙ ap (planning c) own
 
--- An answer that is no plan has a refusal's number.
-pub refusing-number : (a : Answer) → Refusing a → 1 ≤ numbersOf a .refusal
-refusing-number (Planned s u n) r = absurd r
-refusing-number RackOutOfRange r = omega arith
-refusing-number ListLength r = omega arith
-refusing-number TooManyRecords r = omega arith
-refusing-number TablesTooShort r = omega arith
-refusing-number (FilmOutOfRange position) r = omega arith
-refusing-number (DemandOutOfRange position) r = omega arith
-refusing-number (FilmRepeated position) r = omega arith
-
--- A refusal's line is what is printed for its verdict.
-refused-as :
-    (c : Call) (v : Verdict) (n : Numbers) → n ≡ answerFor c v → 1 ≤ n .refusal
-    → refusalText (n .refusal) (n .second) ≡ printed c v
-refused-as c planned n e some = absurd (omega (arith, ap refusalIn e))
-refused-as c (refused number second) n e some = ap (λ (m : Numbers). refusalText (m .refusal) (m .second)) e
-
--- No refusal's number is 0.
-planned-as : (c : Call) (v : Verdict) (n : Numbers) → Small v → n ≡ answerFor c v → n .refusal ≡ 0 → v ≡ planned
-planned-as c planned n small e none = refl
-planned-as c (refused number second) n small e none = absurd (omega (arith, small .0, ap refusalIn e))
-
-module _ (c : Call) (t : Tables) (n : Numbers) (answered : n ≡ planning c t) where
-  pub refused-printed : 1 ≤ n .refusal → refusalText (n .refusal) (n .second) ≡ printed c (verdict c t)
+  -- The line of the refusal that is answered is what is printed for the call.
+  pub refused-printed : {r : Refusal} → a ≡ Refused r → refusalText (numberOf r) (secondOf r) ≡ printedFor c
   unfolding planning
-  refused-printed some = refused-as c (verdict c t) n answered some
+  refused-printed {r} here = go (verdict c ownTables) (sym (ap planNumbers here) ∙ answered)
+    where
+      go : (v : Verdict (Unit {0})) → planNumbers (Refused r) ≡ answerFor c v → refusalText (numberOf r) (secondOf r) ≡ printed c v
+      go (given u) e = absurd (omega (arith, number-some r, ap refusalIn e))
+      go (refused number second) e = ap (λ (n : Numbers PlanSums). refusalText (n .refusal) (n .second)) e
 
-  pub planned-verdict : n .refusal ≡ 0 → verdict c t ≡ planned
-  unfolding planning
-  planned-verdict none = planned-as c (verdict c t) n (small-verdict c t) answered none
+  module _ {s u n : ℕ} (here : a ≡ Planned s u n) where
+    -- A plan that is answered is given by the verdict.
+    pub planned-verdict : verdict c ownTables ≡ given tt
+    unfolding planning
+    planned-verdict = go (verdict c ownTables) (small-verdict c ownTables) (sym (ap planNumbers here) ∙ answered)
+      where
+        go : (v : Verdict (Unit {0})) → Small v → planNumbers (Planned s u n) ≡ answerFor c v → v ≡ given tt
+        go (given tt) small e = refl
+        go (refused number second) small e = absurd (omega (arith, ap refusalIn e))
 
-  -- The number of left films is that of the plan.
-  pub planned-left : verdict c t ≡ planned → n .left ≡ length (leftIn c)
-  unfolding planning
-  planned-left e = ap leftNumber (answered ∙ ap (λ (v : Verdict). answerFor c v) e)
+    -- The number of left films is that of the plan.
+    pub planned-left : n ≡ length (planIn c .left)
+    unfolding planning
+    planned-left =
+        ap (λ (m : Numbers PlanSums). m .values .left) (sym (ap planNumbers here) ∙ answered ∙ ap (answerFor c) planned-verdict)
 
--- The tables hold the plan.
-pub planned-after : (c : Call) (t : Tables) → verdict c t ≡ planned → tablesAfter c t ≡ tablesFor c t planned
-unfolding tablesAfter
-planned-after c t e = ap (λ (v : Verdict). tablesFor c t v) e
+    -- The tables hold the plan.
+    pub planned-after : after ≡ holdingCall c ownTables
+    unfolding tablesAfter
+    planned-after = promise .tables ∙ ap (tablesAfter c) own ∙ ap (tablesFor c ownTables) planned-verdict

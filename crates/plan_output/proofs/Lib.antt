@@ -1,3 +1,5 @@
+pub mod OutputExamplesHold
+pub mod Inputs
 pub mod Kept
 pub mod Small
 pub mod Answers

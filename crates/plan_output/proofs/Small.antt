@@ -1,39 +1,43 @@
--- The numbers of a refusal of planning are small, and so its line is short.
-use mathlib.Core.Path.{_≡_, refl, sym, ap}
+-- The numbers of a refusal of planning are small, and so what is printed for a call is never long, nor empty.
+use mathlib.Core.Path.{_≡_, refl}
 use mathlib.Core.Bool.{Bool, true, false}
-use mathlib.Core.List.{List, [], _∷_, _++_}
-use Prim.Native.Nat.{ℕ, suc, _+_, _%_, _≤_}
+use mathlib.Core.List.{List, [], _∷_}
+use Prim.Native.Nat.{ℕ, zero, suc, _+_, _%_, _≤_, _<_}
 use native.Mathlib.Omega.{arith}
 use borrow.Author.Tests.{leb-true}
 use lib.Dec.{leb, eqb}
 use lib.ListN.{length, length-append}
+use Rattle.refusal.specs.Verdict.{Verdict, given, refused, unless}
 use Rattle.placement.specs.Items.{Item, occurrences}
 use Rattle.placement.specs.Rack.{inRange, rackAccepted, mostFilm, mostDemand, mostRecords}
-use Rattle.placement.specs.Records.{Verdict, planned, refused, unless, judgeRecords}
-use Rattle.placement.specs.Tables.{Tables}
-use Rattle.placement.specs.Planning.{Call, verdict, roomFor, recordCount, recordsIn}
-use Rattle.placement.proofs.Calls.{recordsIn-length}
-use Rattle.plan_text.specs.Ascii.{ascii}
+use Rattle.placement.specs.Records.{recordCount, recordsJudgedFrom}
+use Rattle.placement.specs.Tables.{Tables, roomFor, ownTables}
+use Rattle.placement.specs.Plan.{Plan}
+use Rattle.placement.specs.Planning.{Call, verdict, planIn, recordsIn}
+use Rattle.placement.proofs.Records.{records-length}
+use Rattle.placement.proofs.Calls.{call-wellFormed}
 use Rattle.plan_text.specs.Decimal.{decimal}
-use Rattle.plan_text.specs.Text.{lineFeed}
-use Rattle.plan_text.specs.Refusal.{refusalEnd, refusalText}
-use Rattle.writer.proofs.Bounds.{decimal-short}
-use Rattle.writer.proofs.Refusals.{end-short, refusal-runs}
+use Rattle.plan_text.specs.Text.{closed, lineFeed, textOf}
+use Rattle.plan_text.specs.RefusalLine.{refusalEnd, refusalLine, refusalText}
+use Rattle.plan_text.proofs.Lengths.{length-1, length-5}
+use Rattle.plan_text.proofs.LongestText.{text-length}
+use Rattle.plan_output.specs.Output.{printed, printedFor}
+use Rattle.plan_output.specs.OutputPromise.{mostOutput}
 
 -- The number is 1 to 7, and the second number at most that of the last record.
-abbrev pub Small : Verdict → Type 0
-Small planned = Unit {0}
+abbrev pub Small : Verdict (Unit {0}) → Type 0
+Small (given u) = Unit {0}
 Small (refused number second) = (1 ≤ number) × (number ≤ 7) × (second ≤ mostRecords)
 
 small-unless :
-    (test : Bool) (number second : ℕ) (next : Verdict) → 1 ≤ number → number ≤ 7 → second ≤ mostRecords
-    → (test ≡ true → Small next) → Small (unless test (refused number second) next)
-small-unless true number second next some few place rest = rest refl
-small-unless false number second next some few place rest = (some, few, place)
+    (test : Bool) (number second : ℕ) (following : Verdict (Unit {0})) → 1 ≤ number → number ≤ 7 → second ≤ mostRecords
+    → (test ≡ true → Small following) → Small (unless test number second following)
+small-unless true number second following some few place rest = rest refl
+small-unless false number second following some few place rest = (some, few, place)
 
 small-records :
     (earlier : List Item) (position : ℕ) (xs : List Item) → position + length xs ≤ 1025
-    → Small (judgeRecords earlier position xs)
+    → Small (recordsJudgedFrom earlier position xs (given tt))
 small-records earlier position [] h = tt
 small-records earlier position (x ∷ xs) h =
     small-unless (inRange mostFilm (x .film)) 4 position _ (omega arith) (omega arith) (omega arith)
@@ -44,22 +48,50 @@ small-records earlier position (x ∷ xs) h =
 -- Whatever planning refuses, its numbers are small.
 pub small-verdict : (c : Call) (t : Tables) → Small (verdict c t)
 small-verdict c t =
-    small-unless (rackAccepted (c .disks) (c .slots) (c .streams)) 1 0 _ (omega arith) (omega arith) (omega arith)
+    small-unless (rackAccepted (c .rack)) 1 0 _ (omega arith) (omega arith) (omega arith)
     (λ rack. small-unless (eqb (length (c .list) % 8) 0) 2 0 _ (omega arith) (omega arith) (omega arith)
-    (λ whole. small-unless (leb (recordCount c) mostRecords) 3 0 _ (omega arith) (omega arith) (omega arith)
-    (λ few. small-unless (roomFor c t) 7 0 _ (omega arith) (omega arith) (omega arith)
+    (λ whole. small-unless (leb (recordCount (c .list)) mostRecords) 3 0 _ (omega arith) (omega arith) (omega arith)
+    (λ few. small-unless (roomFor (c .rack) (recordCount (c .list)) t) 7 0 _ (omega arith) (omega arith) (omega arith)
     (λ room. small-records [] 1 (recordsIn c)
-    (omega (arith, recordsIn-length c, leb-true (recordCount c) mostRecords few))))))
+    (omega (arith, records-length (c .list), leb-true (recordCount (c .list)) mostRecords few))))))
 
--- The line of a refusal has at most 14 bytes more than its two numbers.
-pub refusal-short : (number second : ℕ) → length (refusalText number second) ≤ number + second + 14
-refusal-short number second =
+-- The line of a refusal with small numbers has at most 18 bytes.
+end-short : (second : ℕ) → second < 100000 → length (refusalEnd second) ≤ 7
+end-short zero near = omega arith
+end-short (suc n) near = omega (arith, length-append (decimal (suc n)) (closed ∷ []), length-5 (suc n) near)
+
+pub refusal-short : (number second : ℕ) → number < 10 → second < 100000 → length (refusalText number second) ≤ 18
+unfolding refusalText
+refusal-short number second few near =
     omega (
       arith,
-      sym (ap length (refusal-runs number second)),
-      length-append (ascii "(refused ") (decimal number ++ (refusalEnd second ++ (lineFeed ∷ []))),
-      length-append (decimal number) (refusalEnd second ++ (lineFeed ∷ [])),
-      length-append (refusalEnd second) (lineFeed ∷ []),
-      decimal-short number,
-      end-short second,
+      length-append (refusalLine number second) (lineFeed ∷ []),
+      length-append (decimal number) (refusalEnd second),
+      length-1 number few,
+      end-short second near,
     )
+
+-- Neither a plan's text nor a refusal's is empty.
+text-some : (p : Plan) → 1 ≤ length (textOf p)
+unfolding textOf
+text-some p = omega arith
+
+pub refusal-some : (number second : ℕ) → 1 ≤ length (refusalText number second)
+unfolding refusalText
+refusal-some number second = omega arith
+
+module _ (c : Call) where
+  -- What is printed for a call is never longer than the longest text of a well-formed plan.
+  pub printed-short : length (printedFor c) ≤ mostOutput
+  printed-short = go (verdict c ownTables) refl (small-verdict c ownTables)
+    where
+      go : (v : Verdict (Unit {0})) → verdict c ownTables ≡ v → Small v → length (printed c v) ≤ mostOutput
+      go (given u) e small = text-length (planIn c) (call-wellFormed c ownTables e .plan)
+      go (refused number second) e small = omega (arith, refusal-short number second (omega arith) (omega arith))
+
+  pub printed-some : 1 ≤ length (printedFor c)
+  printed-some = go (verdict c ownTables)
+    where
+      go : (v : Verdict (Unit {0})) → 1 ≤ length (printed c v)
+      go (given u) = text-some (planIn c)
+      go (refused number second) = refusal-some number second

@@ -1,128 +1,105 @@
 -- Writing the tables that planning leaves shows the text of the plan.
 use mathlib.Core.Path.{_≡_, sym, ap, ap₂, subst, _∙_}
-use mathlib.Core.Bool.{Bool, true, cond}
-use mathlib.Core.List.{List, map}
-use Prim.Native.Nat.{ℕ, _*_, _≤_}
+use mathlib.Core.Bool.{true}
+use mathlib.Core.List.{List, _++_, map}
+use Prim.Native.Nat.{ℕ, _≤_}
 use native.Mathlib.Omega.{arith}
-use borrow.Author.Tests.{le-leb, lt-leb}
-use lib.ListN.{length, drop, length-append, length-drop}
-use Rattle.placement.specs.Items.{filmOf, amountOf}
-use Rattle.placement.specs.Rack.{rackAccepted}
-use Rattle.placement.specs.Records.{planned}
-use Rattle.placement.specs.Tables.{Tables, written, places, padded, copyPlaces, countPlaces, leftPlaces}
-use Rattle.placement.specs.Planning.{Call, Numbers, verdict, planning, tablesAfter, tablesFor, disksIn, copiesIn, leftIn, recordCount}
+use borrow.Author.Tests.{leb-true, le-leb, lt-leb}
+use lib.Dec.{leb}
+use lib.ListN.{length, drop, length-append, length-drop, take-append-drop}
+use Rattle.refusal.specs.Verdict.{given, Numbers}
+use Rattle.placement.specs.Rack.{Disk, allSlots, rackAccepted}
+use Rattle.placement.specs.Tables.{Tables, entryOf, written, places, padded, roomFor, ownTables}
+use Rattle.placement.specs.Records.{recordCount}
+use Rattle.placement.specs.Planning.{Call, verdict, planIn, holdingCall}
+use Rattle.placement.specs.PlanPromise.{PlanPromise}
+use Rattle.placement.specs.WellFormed.{CallWellFormed}
+use Rattle.placement.proofs.Conjunctions.{both-true, and-holds, cond-true, cond-false}
 use Rattle.placement.proofs.Tests.{by-order}
-use Rattle.placement.proofs.Verdicts.{unless-planned}
+use Rattle.placement.proofs.OwnTables.{own-room}
+use Rattle.placement.proofs.Calls.{call-wellFormed}
 use Rattle.plan_text.specs.Text.{textOf}
-use Rattle.plan_text.specs.Planned.{planIn}
-use Rattle.plan_text.specs.WriteCall.{WriteCall, WriteNumbers, roomStated, wellFormedCall}
-use Rattle.plan_text.proofs.Choices.{and-true}
+use Rattle.plan_text.specs.WriteCall.{WriteCall, writeCall, roomStated, wellFormedCall}
 use Rattle.plan_text.proofs.Planned.{planned-held, planned-wellFormed}
-use Rattle.planner.specs.Plannable.{Plannable}
-use Rattle.planner.proofs.Fulfilled.{plannable}
-use Rattle.writer.specs.WritePromise.{WritePromise, RackHolds, textHeld}
-use Rattle.writer.proofs.Verdicts.{ends-space, ends-written}
-use Rattle.plan_output.specs.Output.{printed}
-use Rattle.plan_output.specs.Shown.{Shown}
+use Rattle.planner.specs.declared.answer.Answer.{Answer}
+use Rattle.planner.specs.declared.answer.Answer.the-variants.{Planned}
+use Rattle.planner.specs.Answers.{planNumbers}
+use Rattle.writer.specs.WritePromise.{WritePromise, textHeld}
+use Rattle.plan_output.specs.Output.{printed, printedFor}
+use Rattle.writer.specs.Shown.{Shown}
 use Rattle.plan_output.proofs.Answers.{planned-verdict, planned-left, planned-after}
 
+-- What was written to a space shows a text that was held and found well formed, whether the text fits or not.
+held-shown :
+    {c : WriteCall} {entry exit : List ℕ} {n : Numbers ℕ} → rackAccepted (c .rack) ≡ true → roomStated c ≡ true → wellFormedCall c ≡ true
+    → WritePromise c entry exit n → Shown (textHeld c) entry exit (n .values)
+held-shown {c} {entry} {exit} {n} rack room formed promise =
+    by-order (length entry) (length (textHeld c))
+    (λ short.
+    let eleven : n .refusal ≡ 11 = promise .refusesSpace rack room formed short in
+    let test = lt-leb (length (textHeld c)) (length entry) short in
+    record {
+      count = promise .noLength (omega arith) ∙ sym (cond-false _ _ _ test);
+      bytes = promise .noByte (omega arith) ∙ sym (cond-false _ _ _ test);
+    })
+    (λ fits.
+    let none : n .refusal ≡ 0 = promise .writes rack room formed fits in
+    let test = le-leb (length (textHeld c)) (length entry) fits in
+    record {
+      count = promise .textLength none ∙ sym (cond-true _ _ _ test);
+      bytes = sym (take-append-drop (n .values) exit)
+          ∙ ap₂ _++_ (promise .text none) (promise .after none ∙ ap (λ (m : ℕ). drop m entry) (promise .textLength none))
+          ∙ sym (cond-true _ _ _ test);
+    })
+
 -- A table is no shorter for what was written to it.
-written-length : (new old : List ℕ) → length old ≤ length (written new old)
-written-length new old =
-    omega (arith, length-append new (drop (length new) old), length-drop (length new) old)
+written-room : (new old : List ℕ) → length old ≤ length (written new old)
+written-room new old = omega (arith, length-append new (drop (length new) old), length-drop (length new) old)
 
-abbrev lengthIn : WriteNumbers → ℕ
-lengthIn n = n .length
+-- Tables that are no shorter have as much room.
+room-kept :
+    (rack : List Disk) (n : ℕ) (t after : Tables) → length (t .copies) ≤ length (after .copies)
+    → length (t .counts) ≤ length (after .counts) → length (t .left) ≤ length (after .left) → roomFor rack n t ≡ true
+    → roomFor rack n after ≡ true
+room-kept rack n t after copies counts left room =
+    let all = both-true (leb (allSlots rack) (length (t .copies))) _ room in
+    let rest = both-true (leb (length rack) (length (t .counts))) _ (all .1) in
+    and-holds _ _ (le-leb (allSlots rack) (length (after .copies)) (omega (arith, leb-true (allSlots rack) _ (all .0))))
+    (and-holds _ _ (le-leb (length rack) (length (after .counts)) (omega (arith, leb-true (length rack) _ (rest .0))))
+    (le-leb n (length (after .left)) (omega (arith, leb-true n _ (rest .1)))))
 
-module _ (c : Call) (t : Tables) (e : verdict c t ≡ planned) where
+module _ (c : Call) (formed : CallWellFormed c) where
   -- The call of writing with the tables that planning leaves.
-  abbrev pub writeCall : WriteCall
-  writeCall = record {
-    disks = c .disks;
-    slots = c .slots;
-    streams = c .streams;
-    tables = tablesFor c t planned;
-    left = length (leftIn c);
-  }
+  abbrev afterPlanning : WriteCall
+  afterPlanning = writeCall (c .rack) (holdingCall c ownTables) (length (planIn c .left))
 
-  able : Plannable c t
-  able = plannable c t e
+  room-after : roomStated afterPlanning ≡ true
+  room-after =
+      room-kept (c .rack) (length (planIn c .left)) ownTables (holdingCall c ownTables)
+      (written-room (places (c .rack) (planIn c .copies)) (ownTables .copies))
+      (written-room (map length (planIn c .copies)) (ownTables .counts))
+      (written-room (padded (recordCount (c .list)) (map entryOf (planIn c .left))) (ownTables .left))
+      (own-room (c .rack) (length (planIn c .left)) (formed .rack) (omega (arith, formed .leftMost, formed .recordsMost)))
 
-  rack-holds : RackHolds writeCall
-  rack-holds = unless-planned (rackAccepted (c .disks) (c .slots) (c .streams)) 1 0 _ e .0
+  -- Writing them shows the text of the plan.
+  text-shown :
+      {entry exit : List ℕ} {n : Numbers ℕ} → WritePromise afterPlanning entry exit n
+      → Shown (textOf (planIn c)) entry exit (n .values)
+  text-shown {entry} {exit} {n} promise =
+      subst (λ (text : List ℕ). Shown text entry exit (n .values)) (ap textOf (planned-held c ownTables (formed .plan)))
+      (held-shown (formed .rack) room-after (planned-wellFormed c ownTables (formed .plan)) promise)
 
-  room-holds : roomStated writeCall ≡ true
-  room-holds =
-      and-true _ _ (le-leb (c .disks * c .slots) (copyPlaces (writeCall .tables)) copies)
-      (and-true _ _ (le-leb (c .disks) (countPlaces (writeCall .tables)) counts)
-      (le-leb (length (leftIn c)) (leftPlaces (writeCall .tables)) left))
-    where
-      films : length (t .films) ≤ length (writeCall .tables .films)
-      films = written-length (places filmOf (disksIn c) (copiesIn c)) (t .films)
-
-      viewers : length (t .viewers) ≤ length (writeCall .tables .viewers)
-      viewers = written-length (places amountOf (disksIn c) (copiesIn c)) (t .viewers)
-
-      leftFilms : length (t .leftFilms) ≤ length (writeCall .tables .leftFilms)
-      leftFilms = written-length (padded (recordCount c) (map filmOf (leftIn c))) (t .leftFilms)
-
-      leftAmounts : length (t .leftAmounts) ≤ length (writeCall .tables .leftAmounts)
-      leftAmounts = written-length (padded (recordCount c) (map amountOf (leftIn c))) (t .leftAmounts)
-
-      copies : c .disks * c .slots ≤ copyPlaces (writeCall .tables)
-      copies = omega (arith, able .films, able .viewers, films, viewers)
-
-      counts : c .disks ≤ countPlaces (writeCall .tables)
-      counts = omega (arith, able .counts, written-length (map length (copiesIn c)) (t .counts))
-
-      left : length (leftIn c) ≤ leftPlaces (writeCall .tables)
-      left = omega (arith, able .leftFilms, able .leftAmounts, able .formed .plan .leftCount, leftFilms, leftAmounts)
-
-  formed-holds : wellFormedCall writeCall ≡ true
-  formed-holds = planned-wellFormed c t (able .formed)
-
-  -- The text that is held is the plan's.
-  held-text : textHeld writeCall ≡ textOf (planIn c)
-  held-text = ap textOf (planned-held c t (able .formed))
-
-  module _ (entry exit : List ℕ) (n : WriteNumbers) (promise : WritePromise writeCall entry exit n) where
-    -- Whether the text fits or not, what writing leaves is what is shown.
-    held-shown : Shown (textHeld writeCall) entry exit (n .length)
-    held-shown =
-        by-order (length entry) (length (textHeld writeCall))
-        (λ short.
-        let ends = ends-space writeCall entry rack-holds room-holds formed-holds short in
-        let test = sym (lt-leb (length (textHeld writeCall)) (length entry) short) in
-        record {
-          count = ap lengthIn (promise .numbers ∙ ends .answers) ∙ ap (λ (b : Bool). cond b (length (textHeld writeCall)) 0) test;
-          bytes = promise .bytes ∙ ends .leaves ∙ ap (λ (b : Bool). cond b (written (textHeld writeCall) entry) entry) test;
-        })
-        (λ fits.
-        let ends = ends-written writeCall entry rack-holds room-holds formed-holds fits in
-        let test = sym (le-leb (length (textHeld writeCall)) (length entry) fits) in
-        record {
-          count = ap lengthIn (promise .numbers ∙ ends .answers) ∙ ap (λ (b : Bool). cond b (length (textHeld writeCall)) 0) test;
-          bytes = promise .bytes ∙ ends .leaves ∙ ap (λ (b : Bool). cond b (written (textHeld writeCall) entry) entry) test;
-        })
-
-    pub text-shown : Shown (textOf (planIn c)) entry exit (n .length)
-    text-shown = subst (λ (text : List ℕ). Shown text entry exit (n .length)) held-text held-shown
-
--- Where planning gives no refusal, writing its tables shows what is printed for the call.
+-- Where planning answers a plan, writing its tables shows what is printed for the call.
 pub planned-shown :
-    (c : Call) (t : Tables) {n : Numbers} {left : ℕ} {after : Tables} {entry exit : List ℕ} {w : WriteNumbers} {answer : ℕ}
-    → n ≡ planning c t → n .refusal ≡ 0 → left ≡ n .left → after ≡ tablesAfter c t
-    → WritePromise (record { disks = c .disks; slots = c .slots; streams = c .streams; tables = after; left = left }) entry exit w
-    → answer ≡ w .length → Shown (printed c (verdict c t)) entry exit answer
-planned-shown c t {n} {left} {after} {entry} {exit} {w} {answer} answered none counted held promise length-is =
+    (c : Call) (a : Answer) {before after : Tables} {s u left : ℕ} {entry exit : List ℕ} {n : Numbers ℕ} {answer : ℕ}
+    → before ≡ ownTables → PlanPromise c before after (planNumbers a) → a ≡ Planned s u left
+    → WritePromise (writeCall (c .rack) after left) entry exit n → answer ≡ n .values → Shown (printedFor c) entry exit answer
+planned-shown c a {entry = entry} {exit = exit} {n = n} {answer = answer} own planned here promise counted =
     subst (λ (text : List ℕ). Shown text entry exit answer) (sym (ap (printed c) e))
-    (subst (λ (m : ℕ). Shown (textOf (planIn c)) entry exit m) (sym length-is)
-    (text-shown c t e entry exit w (subst (λ (call : WriteCall). WritePromise call entry exit w) same promise)))
+    (subst (Shown (textOf (planIn c)) entry exit) (sym counted)
+    (text-shown c (call-wellFormed c ownTables e)
+    (subst (λ (w : WriteCall). WritePromise w entry exit n)
+    (ap₂ (writeCall (c .rack)) (planned-after c a own planned here) (planned-left c a own planned here)) promise)))
   where
-    e : verdict c t ≡ planned
-    e = planned-verdict c t n answered none
-
-    same : record { disks = c .disks; slots = c .slots; streams = c .streams; tables = after; left = left } ≡ writeCall c t e
-    same =
-        ap₂ (λ (a : Tables) (m : ℕ). record { disks = c .disks; slots = c .slots; streams = c .streams; tables = a; left = m })
-        (held ∙ planned-after c t e) (counted ∙ planned-left c t n answered e)
+    e : verdict c ownTables ≡ given tt
+    e = planned-verdict c a own planned here

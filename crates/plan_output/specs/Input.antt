@@ -4,8 +4,9 @@ use mathlib.Core.Bool.{cond}
 use mathlib.Core.List.{List}
 use lib.Dec.{leb}
 use lib.ListN.{drop}
+use Rattle.placement.specs.Rack.{rackOf}
 use Rattle.placement.specs.Records.{number32}
-use Rattle.placement.specs.Planning.{Call}
+use Rattle.placement.specs.Planning.{Call, call}
 
 -- N, k and L take 12 bytes.
 abbrev pub headBytes : ℕ
@@ -13,12 +14,7 @@ headBytes = 12
 
 -- "Standard input: N, k, L as three 32-bit numbers, least significant byte first, then the records."
 abbrev pub callIn : List ℕ → Call
-callIn input = record {
-  disks = number32 input 0;
-  slots = number32 input 4;
-  streams = number32 input 8;
-  list = drop headBytes input;
-}
+callIn input = call (rackOf (number32 input 0) (number32 input 4) (number32 input 8)) (drop headBytes input)
 
 -- The head, one record more than planning accepts, and less than a record more.
 abbrev pub mostKept : ℕ

@@ -1,5 +1,5 @@
 pub mod Input
 pub mod Output
-pub mod Shown
 pub mod KeepPromise
 pub mod OutputPromise
+pub mod OutputExamples

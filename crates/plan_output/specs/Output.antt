@@ -1,35 +1,27 @@
 -- What the program `plan` prints, as bytes, for every input.
-use Prim.Native.Nat.{ℕ, _*_}
+use Prim.Native.Nat.{ℕ}
 use mathlib.Core.Bool.{cond}
 use mathlib.Core.List.{List}
 use lib.Dec.{ltb}
-use lib.ListN.{length, replicate}
-use Rattle.placement.specs.Rack.{mostDisks, mostSlots, mostRecords}
-use Rattle.placement.specs.Records.{Verdict, planned, refused}
-use Rattle.placement.specs.Tables.{Tables}
-use Rattle.placement.specs.Planning.{Call, verdict}
+use lib.ListN.{length}
+use Rattle.refusal.specs.Verdict.{Verdict, given, refused}
+use Rattle.placement.specs.Tables.{ownTables}
+use Rattle.placement.specs.Planning.{Call, verdict, planIn}
 use Rattle.plan_text.specs.Text.{textOf}
-use Rattle.plan_text.specs.Refusal.{refusalText}
-use Rattle.plan_text.specs.Planned.{planIn}
+use Rattle.plan_text.specs.RefusalLine.{refusalText}
 use Rattle.plan_output.specs.Input.{headBytes, callIn}
 
--- The program's tables: zeros, with room for the largest plan, so that planning never refuses them.
-abbrev pub ownTables : Tables
-ownTables = record {
-  films = replicate (mostDisks * mostSlots) 0;
-  viewers = replicate (mostDisks * mostSlots) 0;
-  counts = replicate mostDisks 0;
-  leftFilms = replicate mostRecords 0;
-  leftAmounts = replicate mostRecords 0;
-}
-
 -- The plan text of a plan, the refusal line of a refusal.
-abbrev pub printed : Call → Verdict → List ℕ
-printed c planned = textOf (planIn c)
+abbrev pub printed : Call → Verdict (Unit {0}) → List ℕ
+printed c (given u) = textOf (planIn c)
 printed c (refused number second) = refusalText number second
+
+-- What is printed for a call. The program brings its own tables.
+abbrev pub printedFor : Call → List ℕ
+printedFor c = printed c (verdict c ownTables)
 
 -- "Input shorter than 12 bytes prints `(refused 2)`."
 unfoldable pub outputOf : List ℕ → List ℕ
 outputOf input =
-    let answer = printed (callIn input) (verdict (callIn input) ownTables) in
+    let answer = printedFor (callIn input) in
     cond (ltb (length input) headBytes) (refusalText 2 0) answer

@@ -6,20 +6,11 @@ use borrow.Author.Needs.{needs}
 use Rattle.plan.proofs.print.Statement.{statement}
 use Rattle.plan.proofs.print.Tie as tie
 
-output-requires : tie.Need-output-requires
-output-requires c κs = search needs
-
 slice-reshare-prefix-write-all : tie.Need-slice-reshare-prefix-write-all
 slice-reshare-prefix-write-all c = output-fits (c .before .before .output .ensures)
 
 slice-aggregate-write-all : tie.Need-slice-aggregate-write-all
 slice-aggregate-write-all c = sym (length-take-le _ _ (output-fits (c .before .before .before .output .ensures)))
-
-write-all-requires : tie.Need-write-all-requires
-write-all-requires c κs = search needs
-
-same-length : tie.Need-same-length
-same-length c = search needs
 
 returns : tie.Need-returns
 returns c =
@@ -29,9 +20,9 @@ pub print-spec : {M : Type 1} → statement M
 print-spec =
     tie.close
     (tie.spec
-    output-requires
+    (λ c κs. search needs)
     slice-reshare-prefix-write-all
     slice-aggregate-write-all
-    write-all-requires
-    same-length
+    (λ c κs. search needs)
+    (λ c. search needs)
     returns)

@@ -1,67 +1,15 @@
 -- `jugfjord::writing::written_numbers` gives the numbers of the answer, case by case.
 use mathlib.Core.Path.{sym, ap, _∙_}
-use Rattle.writer.specs.Answers.{numbersOf}
+use Rattle.writer.specs.Answers.{writtenNumbers}
 use borrow.Author.Needs.{needs}
 use Rattle.jugfjord.proofs.writing.written_numbers.Statement.{statement}
 use Rattle.jugfjord.proofs.writing.written_numbers.Tie as tie
 
-enum-known-answer : tie.Need-enum-known-answer
-enum-known-answer c = search needs
-
-enum-told : tie.Need-enum-told
-enum-told c = search needs
-
-declined-requires : tie.Need-declined-requires
-declined-requires c κs = search needs
-
-enum-told-2 : tie.Need-enum-told-2
-enum-told-2 c = search needs
-
-declined-requires-2 : tie.Need-declined-requires-2
-declined-requires-2 c κs = search needs
-
-enum-told-3 : tie.Need-enum-told-3
-enum-told-3 c = search needs
-
-declined-requires-3 : tie.Need-declined-requires-3
-declined-requires-3 c κs = search needs
-
-enum-told-4 : tie.Need-enum-told-4
-enum-told-4 c = search needs
-
-declined-requires-4 : tie.Need-declined-requires-4
-declined-requires-4 c κs = search needs
-
 returns : tie.Need-returns
-returns c = sym (ap numbersOf (c .before .answer .given .1))
+returns c = sym (ap writtenNumbers (c .before .answer .given .1))
 
 returns-2 : tie.Need-returns-2
-returns-2 c = c .declined .ensures ∙ sym (ap numbersOf (c .before .enum-told .given .1))
-
-returns-3 : tie.Need-returns-3
-returns-3 c = c .declined2 .ensures ∙ sym (ap numbersOf (c .before .enum-told2 .given .1))
-
-returns-4 : tie.Need-returns-4
-returns-4 c = c .declined3 .ensures ∙ sym (ap numbersOf (c .before .enum-told3 .given .1))
-
-returns-5 : tie.Need-returns-5
-returns-5 c = c .declined4 .ensures ∙ sym (ap numbersOf (c .before .enum-told4 .given .1))
+returns-2 c = c .declined .ensures ∙ sym (ap writtenNumbers (c .before .before .answer2 .given .1))
 
 pub written-numbers-spec : {M : Type 1} → statement M
-written-numbers-spec =
-    tie.close
-    (tie.spec
-    enum-known-answer
-    enum-told
-    declined-requires
-    enum-told-2
-    declined-requires-2
-    enum-told-3
-    declined-requires-3
-    enum-told-4
-    declined-requires-4
-    returns
-    returns-2
-    returns-3
-    returns-4
-    returns-5)
+written-numbers-spec = tie.close (tie.spec (λ c. search needs) (λ c. search needs) (λ c κs. search needs) returns returns-2)

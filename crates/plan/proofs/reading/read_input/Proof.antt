@@ -20,21 +20,6 @@ counts-of n bytes within = (within, sym (length-take-le n bytes within))
 counted-most : {first answer : ℕ} → Counted first answer → answer ≤ 8219
 counted-most {first} counted = omega (arith, counted .number, kept-most (first + counted .more))
 
-read-full-requires : tie.Need-read-full-requires
-read-full-requires c κs = search needs
-
-same-length : tie.Need-same-length
-same-length c = search needs
-
-returns : tie.Need-returns
-returns c = search needs
-
-count-on-requires : tie.Need-count-on-requires
-count-on-requires c κs = search needs
-
-same-length-2 : tie.Need-same-length-2
-same-length-2 c = search needs
-
 returns-2 : tie.Need-returns-2
 returns-2 c =
     counts-of _ _ (omega (arith, counted-most (c .count-on .ensures)))
@@ -42,4 +27,4 @@ returns-2 c =
 pub read-input-spec : {M : Type 1} → statement M
 read-input-spec =
     tie.close
-    (tie.spec read-full-requires same-length returns count-on-requires same-length-2 returns-2)
+    (tie.spec (λ c κs. search needs) (λ c. search needs) (λ c. search needs) (λ c κs. search needs) (λ c. search needs) returns-2)

@@ -6,24 +6,15 @@ use Rattle.plan_output.proofs.input.keep.Statement.{statement}
 use Rattle.plan_output.proofs.input.keep.Tie as tie
 use Rattle.plan_output.proofs.Kept.{kept-short, keep-promise}
 
-long-requires : tie.Need-long-requires
-long-requires c κs = search needs
-
 returns : tie.Need-returns
 returns c = keep-promise _ _ _ (c .long .ensures)
 
-long-requires-2 : tie.Need-long-requires-2
-long-requires-2 c κs = search needs
-
 returns-2 : tie.Need-returns-2
 returns-2 c = keep-promise _ _ _ (c .long2 .ensures)
-
-add-result : tie.Need-add-result
-add-result c = search needs
 
 returns-3 : tie.Need-returns-3
 returns-3 c = keep-promise _ _ _ (sym (kept-short _ (omega arith)))
 
 pub keep-spec : {M : Type 1} → statement M
 keep-spec =
-    tie.close (tie.spec long-requires returns long-requires-2 returns-2 add-result returns-3)
+    tie.close (tie.spec (λ c κs. search needs) returns (λ c κs. search needs) returns-2 (λ c. search needs) returns-3)
