@@ -66,7 +66,7 @@ class Case:
         self.load = from_to(number, 2, 1, load)
         self.records = from_to(number, 3, 0, records)
         self.folds, self.doubled, self.odd_bytes, self.short = 1, 0, 0, 0
-        self.no_film = self.large_film = self.large_demand = self.repeated = None
+        self.faults = []
         if family == 2:
             self.folds = 3
         if family == 3:
@@ -86,7 +86,6 @@ class Case:
             self.fault(draw(number, 7, 15))
 
     def fault(self, fault):
-        place = draw(self.number, 8, self.records)
         if fault in (0, 1):
             self.disks = (0, 65)[fault]
         elif fault in (2, 3):
@@ -98,23 +97,11 @@ class Case:
         elif fault == 7:
             self.records = from_to(self.number, 10, 1_025, 1_029)
         elif fault in (8, 9):
-            self.short = from_to(self.number, 11, 1, 5)
-        elif fault == 10:
-            self.no_film = place
-        elif fault == 11:
-            self.large_film = place
-        elif fault == 12:
-            self.large_demand = place
+            self.short = from_to(self.number, 11, 1, 3)
         else:
-            self.repeated = place
+            self.faults.append(fault)
 
-    def film(self, i):
-        if i == self.no_film:
-            return 0
-        if i == self.large_film:
-            return (65_536, 65_541)[draw(self.number, 14, 2)]
-        if i == self.repeated:
-            i = draw(self.number, 15, i)
+    def own_film(self, i):
         way = draw(self.number, 12, 4)
         start = from_to(self.number, 13, 1, 64_000)
         if way == 0:
@@ -123,8 +110,19 @@ class Case:
             return 65_535 - i
         return shuffled(start + i)
 
+    def film(self, i):
+        film = self.own_film(i)
+        for fault in self.faults if i == draw(self.number, 8, self.records) else ():
+            if fault == 10:
+                film = 0
+            elif fault == 11:
+                film = (65_536, 65_541)[draw(self.number, 14, 2)]
+            elif fault != 12:
+                film = self.own_film(draw(self.number, 15, i))
+        return film
+
     def demand(self, i):
-        if i == self.large_demand:
+        if 12 in self.faults and i == draw(self.number, 8, self.records):
             return 1_000_001
         own = from_to(self.number, 100 + i, self.low, self.high) * 2**self.doubled
         return own + self.load * draw(self.number, 2_000 + i, self.folds)
@@ -193,9 +191,7 @@ def main():
     for number in range(CASES):
         c = Case(number)
         data = c.list()
-        copies = min(c.length(1, c.disks * c.slots), c.length(2, c.disks * c.slots))
-        counts = c.length(3, c.disks)
-        lefts = min(c.length(4, c.records), c.length(5, c.records))
+        copies, counts, lefts = c.length(1, c.disks * c.slots), c.length(2, c.disks), c.length(3, c.records)
         why = refusal(c.disks, c.slots, c.load, data, copies, counts, lefts)
         if why:
             refused[why] += 1

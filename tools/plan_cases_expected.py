@@ -86,7 +86,7 @@ def long_input(length):
     return bytes_of(3, 4, 50, *((i + 1, i % 100) for i in range(count)))[:length]
 
 
-# The files, in the order in which the program reads them.
+# The files, in the order in which the program reads them, which is that of the file `names`.
 FILES = {
     "case_b": bytes_of(1, 2, 5),
     "case_c": bytes_of(2, 1, 2, (1, 1), (2, 3)),
@@ -120,7 +120,8 @@ FILES = {
     "bytes_12": bytes_of(1, 1, 1),
 }
 
-# The lengths of the long inputs, which the program makes by the same rule.
+# The lengths of the long inputs. The file `long` has as many bytes of them as the program keeps at most.
+KEPT = 8219
 LONG = [12 + 8192, 12 + 8200, 12 + 8203, 12 + 8208, 12 + 8211, 1048576, 12 + 1048576]
 
 # What document 01 prints or says of its cases.
@@ -152,6 +153,8 @@ def main():
     for name, content in FILES.items():
         (data / name).write_bytes(content)
         out.append(name + "\n" + printed(content))
+    (data / "names").write_text("".join(name + "\n" for name in FILES))
+    (data / "long").write_bytes(long_input(KEPT))
     for length in LONG:
         out.append("long " + str(length) + "\n" + printed(long_input(length)))
     (CRATE / "stdout").write_text("".join(out))

@@ -1,9 +1,10 @@
 #!/usr/bin/env python3
-"""Makes the cases of crates/text_check/data from document 01: texts to read, tables to write, texts to damage byte by byte.
+"""Makes the cases of crates/text_check/data from document 01: texts to read and tables to write.
 
-A case is a line `LABEL GIVEN TOTAL FILL WHAT PLACE VALUE`, then GIVEN bytes and a line feed. The text is the bytes given, and
-after them as many bytes FILL as make TOTAL. With FILL + 256 no bytes are given, and those of the last case that gave some serve
-again. WHAT, PLACE and VALUE say what is done to the tables or to the text.
+A case is a line of nine numbers, in columns of seven and the last of eleven, and a label: where the next case starts, where the
+label ends, where the bytes given start and how many they are, the length of the text, the byte FILL, WHAT, PLACE and VALUE. Behind
+it stand the bytes given, unless the last case has the same, and a line feed. The text is the bytes given, and after them as many bytes
+FILL as make its length. WHAT, PLACE and VALUE say what is done to the tables or to the text.
 """
 import os
 import re
@@ -15,9 +16,9 @@ DATA = os.path.join(os.path.dirname(os.path.abspath(__file__)), "..", "crates", 
 NOTHING = 0
 SET_FILM, SET_VIEWERS, SET_COUNT, SET_LEFT_FILM, SET_LEFT_AMOUNT = 1, 2, 3, 4, 5
 SET_DISKS, SET_SLOTS, SET_STREAMS, SET_LEFT = 6, 7, 8, 9
-LEND_FILMS, LEND_VIEWERS, LEND_COUNTS, LEND_LEFT_FILMS, LEND_LEFT_AMOUNTS, LEND_SPACE = 11, 12, 13, 14, 15, 16
+LEND_COPIES, LEND_COUNTS, LEND_LEFT, LEND_SPACE = 11, 12, 13, 14
 # A byte of the text set.
-SET_BYTE = 17
+SET_BYTE = 15
 
 CASE_A = b"""(rack 3 4 6)
 (disk 1 (8 1) (9 1) (10 1) (11 3))
@@ -36,26 +37,28 @@ class Cases:
     """One file of cases."""
 
     def __init__(self):
-        self.parts = []
+        self.data = b""
         self.labels = set()
-        self.last = None
+        self.last, self.start = None, 0
 
     def add(self, label, text, total=None, fill=0, what=NOTHING, place=0, value=0):
         assert re.fullmatch(r"[a-z0-9_]+", label), label
         assert label not in self.labels, label
         self.labels.add(label)
         total = len(text) if total is None else total
-        if text == self.last:
-            text, fill = b"", fill + 256
-        elif text:
-            self.last = text
-        head = "%s %d %d %d %d %d %d\n" % (label, len(text), total, fill, what, place, value)
-        self.parts.append(head.encode() + text + b"\n")
+        label_end = len(self.data) + 67 + len(label)
+        given = b"" if text == self.last else text
+        if given:
+            self.last, self.start = text, label_end + 1
+        numbers = (label_end + 2 + len(given), label_end, self.start, len(text), total, fill, what, place)
+        assert all(n < 10 ** 6 for n in numbers)
+        head = "".join("%-7d" % n for n in numbers) + "%-11d" % value + label + "\n"
+        self.data += head.encode() + given + b"\n"
 
     def write(self, name):
         os.makedirs(DATA, exist_ok=True)
         with open(os.path.join(DATA, name), "wb") as f:
-            f.write(b"".join(self.parts))
+            f.write(self.data)
 
 
 def pairs(entries):
@@ -321,15 +324,13 @@ def lending_file():
     c = Cases()
     for name, text, copies, disks, left in (("case_a", CASE_A, 12, 3, 2), ("small", SMALL, 2, 1, 1), ("empty", EMPTY, 2, 2, 0),
                                             ("largest", largest(), 2048, 64, 1024)):
-        for table, what, needed in (("films", LEND_FILMS, copies), ("viewers", LEND_VIEWERS, copies),
-                                    ("counts", LEND_COUNTS, disks), ("left_films", LEND_LEFT_FILMS, left),
-                                    ("left_amounts", LEND_LEFT_AMOUNTS, left)):
+        for table, what, needed in (("copies", LEND_COPIES, copies), ("counts", LEND_COUNTS, disks), ("left", LEND_LEFT, left)):
             sizes = (needed - 1, needed) if name == "largest" else (0, needed - 1, needed, needed + 1)
-            if name == "largest" and table not in ("films", "left_films"):
+            if name == "largest" and table == "counts":
                 continue
             for size in sorted(set(x for x in sizes if x >= 0)):
                 c.add("%s_%s_%d" % (name, table, size), text, what=what, value=size)
-    for table, what in (("films", LEND_FILMS), ("counts", LEND_COUNTS), ("left_films", LEND_LEFT_FILMS)):
+    for table, what in (("copies", LEND_COPIES), ("counts", LEND_COUNTS), ("left", LEND_LEFT)):
         c.add("nine_before_seven_%s" % table, SMALL.replace(b"served 4", b"served 5"), what=what, value=0)
         c.add("eight_before_seven_%s" % table, SMALL, 65537, 10, what=what, value=0)
     c.write("lending")
@@ -373,9 +374,8 @@ def writing_file():
     sets("case_a", CASE_A, SET_LEFT_FILM, "left_film", 1, (0, 1, 2, 65535, 65536))
     sets("case_a", CASE_A, SET_LEFT, "left", 0, (0, 1, 2, 3))
     for name, text, copies, disks, left in (("case_a", CASE_A, 12, 3, 2), ("small", SMALL, 2, 1, 1), ("empty", EMPTY, 2, 2, 0)):
-        for table, what, needed in (("films", LEND_FILMS, copies), ("viewers", LEND_VIEWERS, copies),
-                                    ("counts", LEND_COUNTS, disks), ("left_films", LEND_LEFT_FILMS, left),
-                                    ("left_amounts", LEND_LEFT_AMOUNTS, left), ("space", LEND_SPACE, len(text))):
+        for table, what, needed in (("copies", LEND_COPIES, copies), ("counts", LEND_COUNTS, disks), ("left", LEND_LEFT, left),
+                                    ("space", LEND_SPACE, len(text))):
             for size in sorted(set(x for x in (0, needed - 1, needed, needed + 1) if x >= 0)):
                 c.add("%s_lent_%s_%d" % (name, table, size), text, what=what, value=size)
     c.add("largest", largest())
@@ -388,24 +388,9 @@ def writing_file():
     c.write("writing")
 
 
-# ---- texts that the program damages byte by byte: PLACE is the step from place to place, VALUE how many bytes are tried ----
-
-def damaged_file():
-    c = Cases()
-    c.add("case_a", CASE_A, place=1, value=255)
-    c.add("small", SMALL, place=1, value=255)
-    c.add("empty", EMPTY, place=1, value=255)
-    c.add("mixed", MIXED, place=1, value=255)
-    c.add("ten_disks", text_of(10, 3, 70, {2: [(65535, 60), (9, 10)], 10: [(10, 1), (11, 1), (12, 1)]}, [(9, 5), (10, 1000000)]),
-          place=1, value=255)
-    c.add("largest", largest(), place=211, value=1)
-    c.write("damaged")
-
-
 if __name__ == "__main__":
     lines_file()
     limits_file()
     long_file()
     lending_file()
     writing_file()
-    damaged_file()

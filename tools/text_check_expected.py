@@ -2,8 +2,8 @@
 """Prints what the program text_check has to print, from a reader and a writer written here from document 01's words alone.
 
 They share nothing with the proved reader and writer. This reader splits the text at its line feeds and holds each line against
-its form as a whole; this writer joins lines. The cases are those of crates/text_check/data, the byte damages are made anew here.
-That a plan that was read is written the same, that a refusal leaves every place, and that faults are 0, is what 01 demands.
+its form as a whole; this writer joins lines. The cases are those of crates/text_check/data.
+That a plan that was read is written the same, and that a refusal leaves every place, is what 01 demands.
 Usage: python3 tools/text_check_expected.py > crates/text_check/stdout
 """
 import os
@@ -14,6 +14,7 @@ DATA = os.path.join(os.path.dirname(os.path.abspath(__file__)), "..", "crates", 
 # The places of the tables and of the space for text, what they hold before a call, and the room a case has.
 COPIES, DISKS, LEFT, SPACE = 2056, 72, 1032, 65600
 UNUSED, UNUSED_BYTE = 3_000_000_000, 238
+UNUSED_ENTRY = (UNUSED, UNUSED)
 
 NUMBER = rb"(0|[1-9][0-9]*)"
 RACK_LINE = re.compile(rb"\(rack " + NUMBER + rb" " + NUMBER + rb" " + NUMBER + rb"\)")
@@ -94,41 +95,37 @@ def read_text(text):
 
 
 def fresh_tables():
-    return [[UNUSED] * COPIES, [UNUSED] * COPIES, [UNUSED] * DISKS, [UNUSED] * LEFT, [UNUSED] * LEFT]
+    """The copy, count and left tables; an entry is a film and a number."""
+    return [[UNUSED_ENTRY] * COPIES, [UNUSED] * DISKS, [UNUSED_ENTRY] * LEFT]
 
 
 def store(tables, plan):
     """The tables after reading a plan."""
     (disks, slots, _), copies, left = plan[1:4]
-    films, viewers, counts, left_films, left_amounts = tables
     for d in range(disks):
-        for s in range(slots):
-            films[d * slots + s], viewers[d * slots + s] = copies[d][s] if s < len(copies[d]) else (0, 0)
-        counts[d] = len(copies[d])
-    for i, (f, a) in enumerate(left):
-        left_films[i], left_amounts[i] = f, a
+        tables[0][d * slots:(d + 1) * slots] = copies[d] + [(0, 0)] * (slots - len(copies[d]))
+        tables[1][d] = len(copies[d])
+    tables[2][:len(left)] = left
 
 
 def write_tables(rack, tables, left, space):
     """A refusal's number, or the text of what the tables hold; space is how many bytes are lent."""
     disks, slots, streams = rack
-    films, viewers, counts, left_films, left_amounts = tables
+    entries, counts, lefts = tables
     if not rack_ok(disks, slots, streams):
         return 1
-    if (min(len(films), len(viewers)) < disks * slots or len(counts) < disks
-            or min(len(left_films), len(left_amounts)) < left):
+    if len(entries) < disks * slots or len(counts) < disks or len(lefts) < left:
         return 7
     copies = []
     for d in range(disks):
-        here = list(zip(films, viewers))[d * slots:(d + 1) * slots]
+        here = entries[d * slots:(d + 1) * slots]
         used = here[:counts[d]]
         if counts[d] > slots or not copies_ok(slots, streams, used) or any(p != (0, 0) for p in here[counts[d]:]):
             return 10
         copies.append(used)
-    entries = list(zip(left_films, left_amounts))[:left]
-    if not left_ok(entries):
+    if not left_ok(lefts[:left]):
         return 10
-    text = render(disks, slots, streams, copies, entries)
+    text = render(disks, slots, streams, copies, lefts[:left])
     return 11 if len(text) > space else text
 
 
@@ -137,22 +134,15 @@ def write_tables(rack, tables, left, space):
 def cases(name):
     with open(os.path.join(DATA, name), "rb") as f:
         data = f.read()
-    at, last = 0, b""
+    at = 0
     while at < len(data):
-        end = data.index(b"\n", at)
-        words = data[at:end].decode().split(" ")
-        given, total, fill, what, place, value = (int(w) for w in words[1:])
-        text = data[end + 1:end + 1 + given]
-        at = end + 2 + given
-        assert data[at - 1:at] == b"\n"
-        if given:
-            last = text
-        if fill >= 256:
-            text, fill = last, fill - 256
-        text = (text + bytes([fill]) * (total - len(text)))[:total]
-        if what == 17:
+        words = data[at:data.index(b"\n", at)].decode().split()
+        following, label_end, start, given, total, fill, what, place, value = (int(w) for w in words[:9])
+        text = (data[start:start + given] + bytes([fill]) * (total - given))[:total]
+        if what == 15:
             text = text[:place] + bytes([value]) + text[place + 1:]
-        yield words[0], text, what, place, value
+        at = following
+        yield words[9], text, what, place, value
 
 
 def lent(tables, what, value):
@@ -167,12 +157,23 @@ def fold(digest, numbers):
 
 
 def table_digest(plan):
+    """An entry counts as one number, the film in its low 32 bits."""
     tables = fresh_tables()
     store(tables, plan)
-    digest = 0
-    for t in tables:
-        digest = fold(digest, t)
-    return digest
+    copies, counts, left = tables
+    return fold(fold(fold(0, (f + (n << 32) for f, n in copies)), counts), (f + (n << 32) for f, n in left))
+
+
+def set_place(tables, what, place, value):
+    """A film or its number set in the copy table (1, 2) or the left table (4, 5), or a count set (3)."""
+    table = tables[(0, 0, 1, 2, 2)[what - 1]]
+    if place < len(table):
+        if what == 3:
+            table[place] = value
+        elif what in (1, 4):
+            table[place] = (value, table[place][1])
+        else:
+            table[place] = (table[place][0], value)
 
 
 def outcome(answer):
@@ -187,7 +188,7 @@ def reading(name):
         answer = judged
         if answer[0] == "plan":
             disks, slots, _ = answer[1]
-            needed = (disks * slots, disks * slots, disks, len(answer[3]), len(answer[3]))
+            needed = (disks * slots, disks, len(answer[3]))
             if any(len(t) < n for t, n in zip(lent(fresh_tables(), what, value), needed)):
                 answer = ("refused", 7, 0)
         line = "%s: read %s, judged %s, " % (label, outcome(answer), outcome(judged))
@@ -204,13 +205,13 @@ def writing(name):
         tables = fresh_tables()
         store(tables, plan)
         rack, left = list(plan[1]), len(plan[3])
-        if 1 <= what <= 5 and place < len(tables[what - 1]):
-            tables[what - 1][place] = value
+        if 1 <= what <= 5:
+            set_place(tables, what, place, value)
         if 6 <= what <= 8:
             rack[what - 6] = value
         if what == 9:
             left = value
-        space = value if what == 16 else SPACE
+        space = value if what == 14 else SPACE
         answer = write_tables(rack, lent(tables, what, value), left, space)
         if isinstance(answer, int):
             print("%s: refused %d, space untouched" % (label, answer))
@@ -219,50 +220,12 @@ def writing(name):
             print("%s: length %d, space %016x" % (label, len(answer), fold(0, filled)))
 
 
-def damaged_texts(text, kind, step, tried):
-    for place in range(0, len(text), step):
-        b = text[place]
-        before, after = text[:place], text[place + 1:]
-        if kind == "replaced":
-            yield from (before + bytes([b ^ t]) + after for t in range(1, tried + 1))
-        elif kind == "inserted":
-            yield from (before + bytes([b ^ t, b]) + after for t in range(1, tried + 1))
-        elif kind == "deleted":
-            yield before + after
-        elif kind == "doubled":
-            yield before + bytes([b, b]) + after
-        elif kind == "cut":
-            yield before
-        elif kind == "swapped":
-            yield before + after[:1] + bytes([b]) + after[1:]
-
-
-def damaged(name):
-    for label, text, what, step, tried in cases(name):
-        for kind in ("replaced", "inserted", "deleted", "doubled", "cut", "swapped"):
-            count, accepted, lines, digest = 0, 0, {}, 0
-            for t in damaged_texts(text, kind, step, tried):
-                answer = read_text(t)
-                count += 1
-                if answer[0] == "plan":
-                    accepted += 1
-                    digest = fold(digest, (0, table_digest(answer)))
-                else:
-                    lines[answer[2]] = lines.get(answer[2], 0) + 1
-                    digest = fold(digest, answer[1:])
-            print("%s %s: %d tried, %d accepted, outcomes %016x, 0 faults" % (label, kind, count, accepted, digest))
-            for n in sorted(lines):
-                print("  refused 9 %d: %d" % (n, lines[n]))
-
-
 def main():
     for name in ("lines", "limits", "long", "lending"):
         print("reading " + name)
         reading(name)
     print("writing")
     writing("writing")
-    print("damaged")
-    damaged("damaged")
 
 
 main()

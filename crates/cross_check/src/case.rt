@@ -1,9 +1,8 @@
 // The cases: racks and lists of ten families, and faults for those that are to be refused.
 use crate::draw::draw;
-use crate::draw::film;
 use crate::draw::from_to;
 
-// A case: the rack, what its records are drawn from, and its faults. A place of a fault is that of a record, from 0.
+// A case: its rack, how many records it has, of which demands, how many bytes behind them, and which table is lent too short.
 pub(crate) struct Case {
     pub(crate) number: u64,
     pub(crate) disks: u32,
@@ -12,18 +11,9 @@ pub(crate) struct Case {
     pub(crate) records: u32,
     pub(crate) low: u32,
     pub(crate) high: u32,
-    pub(crate) folds: u32,
-    pub(crate) doubled: u32,
     pub(crate) odd_bytes: u32,
     pub(crate) short: u32,
-    pub(crate) no_film: u32,
-    pub(crate) large_film: u32,
-    pub(crate) large_demand: u32,
-    pub(crate) repeated: u32,
 }
-
-// The place of a fault that a case does not have.
-const NOWHERE: u32 = 100_000;
 
 // A case of so many records at most, with demands of low to high, and no fault.
 fn plain(
@@ -43,28 +33,24 @@ fn plain(
         records: from_to(number, 3, 0, most_records),
         low,
         high,
-        folds: 1,
-        doubled: 0,
         odd_bytes: 0,
         short: 0,
-        no_film: NOWHERE,
-        large_film: NOWHERE,
-        large_demand: NOWHERE,
-        repeated: NOWHERE,
     }
-}
-
-// Demands with the load added once or twice, so that what is left of a film equals other demands.
-fn folded(mut c: Case) -> Case {
-    c.folds = 3;
-    c
 }
 
 // Demands and load doubled up to two times, so that windows meet the load exactly.
 fn exact(mut c: Case) -> Case {
-    c.doubled = draw(c.number, 4, 3);
-    c.load = twice(c.load, c.doubled);
+    c.load = twice(c.load, doubled(c.number));
     c
+}
+
+// n, doubled so many times, up to two.
+pub(crate) fn twice(n: u32, times: u32) -> u32 {
+    match times {
+        0 => n,
+        1 => n << 1,
+        _ => n << 2,
+    }
 }
 
 // Many films.
@@ -87,41 +73,54 @@ fn largest(mut c: Case) -> Case {
     c
 }
 
-// n, doubled so many times, up to two.
-pub(crate) fn twice(n: u32, times: u32) -> u32 {
-    match times {
-        0 => n,
-        1 => n << 1,
-        _ => n << 2,
-    }
-}
-
 // A case of the family that its number's last digit names.
-pub(crate) fn case_of(number: u64) -> Case {
+fn of_family(number: u64) -> Case {
     match number % 10 {
-        0 => plain(number, 4, 4, 12, 8, 0, 9),
         1 => plain(number, 6, 5, 10, 16, 1, 3),
-        2 => folded(plain(number, 5, 4, 9, 9, 1, 3)),
+        2 => plain(number, 5, 4, 9, 9, 1, 3),
         3 => exact(plain(number, 4, 5, 6, 12, 1, 2)),
         4 => plain(number, 8, 32, 40, 2, 0, 60),
         5 => many(plain(number, 16, 12, 200, 129, 0, 99)),
         6 => plain(number, 8, 4, 1, 12, 0, 4),
         7 => largest(plain(number, 64, 32, 65_535, 40, 0, 1_000_000)),
-        8 => with_fault(plain(number, 4, 4, 12, 8, 0, 9), draw(number, 6, 15)),
-        _ => with_two_faults(plain(number, 4, 4, 12, 8, 0, 9)),
+        _ => plain(number, 4, 4, 12, 8, 0, 9),
     }
 }
 
-// The case with two faults, of which the first in 01's order decides.
-fn with_two_faults(c: Case) -> Case {
-    let first = draw(c.number, 6, 15);
-    let second = draw(c.number, 7, 15);
-    with_fault(with_fault(c, first), second)
+// How many times the demands and the load of a case are doubled.
+pub(crate) fn doubled(number: u64) -> u32 {
+    if number % 10 == 3 {
+        draw(number, 4, 3)
+    } else {
+        0
+    }
 }
 
-// The case with a fault: one of the rack, of the list's length, of the tables, or of a record.
+// One more than how many times the load can be added to a demand, so that what is left of a film equals other demands.
+pub(crate) fn folds(number: u64) -> u32 {
+    if number % 10 == 2 { 3 } else { 1 }
+}
+
+// The first fault of a case of families 8 and 9, or 15 for none.
+pub(crate) fn first_fault(number: u64) -> u32 {
+    if number % 10 < 8 {
+        15
+    } else {
+        draw(number, 6, 15)
+    }
+}
+
+// The second fault of a case of family 9, or 15 for none.
+pub(crate) fn second_fault(number: u64) -> u32 {
+    if number % 10 < 9 {
+        15
+    } else {
+        draw(number, 7, 15)
+    }
+}
+
+// The case with a fault of the rack, of the list's length or of the tables; 10 to 14 are faults of a record.
 fn with_fault(mut c: Case, fault: u32) -> Case {
-    let place = draw(c.number, 8, c.records);
     match fault {
         0 => c.disks = 0,
         1 => c.disks = 65,
@@ -131,51 +130,16 @@ fn with_fault(mut c: Case, fault: u32) -> Case {
         5 => c.load = 65_536,
         6 => c.odd_bytes = from_to(c.number, 9, 1, 7),
         7 => c.records = from_to(c.number, 10, 1_025, 1_029),
-        8 | 9 => c.short = from_to(c.number, 11, 1, 5),
-        10 => c.no_film = place,
-        11 => c.large_film = place,
-        12 => c.large_demand = place,
-        _ => c.repeated = place,
+        8 | 9 => c.short = from_to(c.number, 11, 1, 3),
+        _ => {}
     }
     c
 }
 
-// A film number above 65,535: the first, or one that is film 5 in 16 bits.
-fn too_large(number: u64) -> u32 {
-    if draw(number, 14, 2) == 0 {
-        65_536
-    } else {
-        65_541
-    }
-}
-
-// The film number of record i.
-pub(crate) fn film_of(c: Case, i: u32) -> u32 {
-    if i == c.no_film {
-        return 0;
-    }
-    let way = draw(c.number, 12, 4);
-    let start = from_to(c.number, 13, 1, 64_000);
-    if i == c.large_film {
-        return too_large(c.number);
-    }
-    if i == c.repeated {
-        return film(way, start, draw(c.number, 15, i));
-    }
-    film(way, start, i)
-}
-
-// The demand of record i.
-pub(crate) fn demand_of(c: Case, i: u32) -> u32 {
-    if i == c.large_demand {
-        return 1_000_001;
-    }
-    let place = 100 + (i as u64);
-    let own = twice(from_to(c.number, place, c.low, c.high), c.doubled);
-    let folds = draw(c.number, 2_000 + (i as u64), c.folds);
-    match folds {
-        0 => own,
-        1 => std::num::wrapping_add_u32(own, c.load),
-        _ => std::num::wrapping_add_u32(own, c.load << 1),
-    }
+// The case of a number.
+pub(crate) fn case_of(number: u64) -> Case {
+    with_fault(
+        with_fault(of_family(number), first_fault(number)),
+        second_fault(number),
+    )
 }

@@ -1,19 +1,64 @@
 // Runs the proved planner and the plain planner on many racks and lists, compares every place of every table and every number
 // of the answers, and prints how many cases ran, how many were refused, what was served and left in all, and how many differ.
-mod answer;
 mod bytes;
 mod case;
+mod compare;
 mod draw;
 mod lend;
-mod run;
-mod tables;
+mod plain;
 
+use case::case_of;
+use compare::Compared;
+use compare::compare;
 use libc::STDOUT_FILENO;
-use run::Tally;
-use run::run_cases;
 
 // How many cases are run.
 const CASES: u64 = 25_000;
+
+// How many cases ran, how many were refused, what was served and left in all, and how many cases differ.
+struct Tally {
+    cases: u64,
+    refused: u64,
+    served: u64,
+    unserved: u64,
+    differ: u64,
+}
+
+// A count, and one more if what is counted is so.
+fn one_more(n: u64, so: bool) -> u64 {
+    if so {
+        std::num::wrapping_add_u64(n, 1)
+    } else {
+        n
+    }
+}
+
+// The tally with a case more.
+fn counted(t: Tally, c: Compared) -> Tally {
+    let plain = c.plain;
+    Tally {
+        cases: one_more(t.cases, true),
+        refused: one_more(t.refused, plain.refusal != 0),
+        served: std::num::wrapping_add_u64(t.served, plain.served),
+        unserved: std::num::wrapping_add_u64(t.unserved, plain.unserved),
+        differ: one_more(t.differ, !c.same),
+    }
+}
+
+// Runs so many cases.
+fn run_cases(cases: u64) -> Tally {
+    let mut t = Tally {
+        cases: 0,
+        refused: 0,
+        served: 0,
+        unserved: 0,
+        differ: 0,
+    };
+    for number in 0..cases {
+        t = counted(t, compare(case_of(number)));
+    }
+    t
+}
 
 // Writes a word and a number on a line.
 fn print_line(word: &[u8], n: u64) {
@@ -22,16 +67,12 @@ fn print_line(word: &[u8], n: u64) {
     io::write_all(STDOUT_FILENO, b"\n");
 }
 
-// Writes the five lines.
-fn print_tally(t: Tally) {
+// Runs all cases and writes the tally.
+fn main() {
+    let t = run_cases(CASES);
     print_line(b"cases ", t.cases);
     print_line(b"refused ", t.refused);
     print_line(b"served ", t.served);
     print_line(b"left ", t.unserved);
     print_line(b"differ ", t.differ);
-}
-
-// Runs all cases and writes the tally.
-fn main() {
-    print_tally(run_cases(CASES));
 }

@@ -1,97 +1,75 @@
-// Prints, for many inputs, a label and what the program `plan` prints: inputs from files, and long ones made by a rule.
-mod files;
-mod long;
+// Prints, for many inputs, a label and what the program `plan` prints: for each file that the file `names` lists, and for a long
+// input of which the program keeps a part.
 mod show;
 
-use files::run_file;
-use long::run_long;
+use libc::STDOUT_FILENO;
+use plan_output::keep;
+use show::show;
 
-// Cases B to E of document 01.
-fn run_b_to_e() {
-    run_file(b"case_b");
-    run_file(b"case_c");
-    run_file(b"case_d");
-    run_file(b"case_e");
+// Reads the file into the space and answers how many bytes came. A missing file is said so.
+fn read_file(name: &[u8], input: &mut [u8]) -> usize {
+    let fd = os::open_read(name);
+    if fd < 0 {
+        io::write_all(STDOUT_FILENO, b"no such file\n");
+    }
+    let n = io::read_full(fd, input);
+    libc::close(fd);
+    n
 }
 
-// Cases F to I of document 01.
-fn run_f_to_i() {
-    run_file(b"case_f");
-    run_file(b"case_g");
-    run_file(b"case_h");
-    run_file(b"case_i");
+// Prints the name of the file and the output for it.
+fn run_file(name: &[u8]) {
+    let mut input = [0u8; 1_024];
+    let n = read_file(name, &mut input);
+    io::write_all(STDOUT_FILENO, name);
+    io::write_all(STDOUT_FILENO, b"\n");
+    show(&input, n);
 }
 
-// Racks with N at and past its limits.
-fn run_disks() {
-    run_file(b"disks_0");
-    run_file(b"disks_64");
-    run_file(b"disks_65");
+// Runs the file whose name ends at a place, if one does, and answers where the next name starts.
+fn run_name(names: &[u8], start: usize, end: usize) -> usize {
+    if end >= names.len() {
+        return start;
+    }
+    if names[end] != b'\n' {
+        return start;
+    }
+    if start <= end {
+        run_file(&names[start..end]);
+    }
+    end + 1
 }
 
-// Racks with k and L past their limits.
-fn run_slots_and_loads() {
-    run_file(b"slots_0");
-    run_file(b"slots_33");
-    run_file(b"load_0");
-    run_file(b"load_65536");
+// Runs the files that are listed, a name a line.
+fn run_names(names: &[u8]) {
+    let mut start = 0;
+    for i in 0..names.len() {
+        start = run_name(names, start, i);
+    }
 }
 
-// Lists of an odd length.
-fn run_odd() {
-    run_file(b"odd_bytes");
-    run_file(b"odd_bytes_bad_rack");
-    run_file(b"odd_bytes_bad_film");
+// Prints the label of a long input, and the output for the part of it that is kept, counted in two halves.
+fn run_long(length: usize) {
+    let mut input = [0u8; 8_219];
+    read_file(b"long", &mut input);
+    let half = length / 2;
+    let n = keep(keep(0, half), length - half);
+    io::write_all(STDOUT_FILENO, b"long ");
+    io::print_decimal(STDOUT_FILENO, length as u64);
+    io::write_all(STDOUT_FILENO, b"\n");
+    show(&input, n);
 }
 
-// Records with a number past its limits.
-fn run_records() {
-    run_file(b"film_0");
-    run_file(b"film_65536");
-    run_file(b"film_65541");
-    run_file(b"demand_1000001");
-}
-
-// Which fault is given, a film that was seen before, and a split film.
-fn run_order() {
-    run_file(b"film_before_demand");
-    run_file(b"first_fault");
-    run_file(b"repeated_after_0");
-    run_file(b"split_returns");
-}
-
-// Inputs of 12 bytes and less.
-fn run_short() {
-    run_file(b"bytes_0");
-    run_file(b"bytes_11");
-    run_file(b"bytes_11_bad_rack");
-    run_file(b"bytes_12");
-}
-
-// Inputs of 1,024 records and 1,025, with and without odd bytes.
-fn run_most() {
+// Runs the files, then 1,024 records, 1,025 with and without odd bytes, and of 1,026 records and of 1 MiB what is kept.
+fn main() {
+    let mut names = [0u8; 1_024];
+    read_file(b"names", &mut names);
+    run_names(&names);
     run_long(8_204);
     run_long(8_212);
     run_long(8_215);
-}
-
-// Inputs of which a part is kept: 1,026 records, with and without odd bytes, and 1 MiB of records and in all.
-fn run_kept() {
     run_long(8_220);
     run_long(8_223);
     run_long(1_048_576);
     run_long(1_048_588);
-}
-
-fn main() {
-    run_b_to_e();
-    run_f_to_i();
-    run_disks();
-    run_slots_and_loads();
-    run_odd();
-    run_records();
-    run_order();
-    run_short();
-    run_most();
-    run_kept();
 }

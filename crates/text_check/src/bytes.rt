@@ -1,13 +1,8 @@
-// Places of slices for any index: past the end a place reads 0, and a store there does nothing.
+// Places of slices for any index, and digests.
 ghost use Prim.Native.Nat.{_≤_};
 
 // The byte at place i, or 0 past the end.
 pub(crate) fn at(s: &[u8], i: usize) -> u8 {
-    if i < s.len() { s[i] } else { 0 }
-}
-
-// The number at place i, or 0 past the end.
-pub(crate) fn number_at(s: &[u32], i: usize) -> u32 {
     if i < s.len() { s[i] } else { 0 }
 }
 
@@ -18,28 +13,11 @@ pub(crate) fn put(s: &mut [u8], i: usize, b: u8) {
     }
 }
 
-// Stores a number at place i, if there is such a place.
-pub(crate) fn put_number(s: &mut [u32], i: usize, n: u32) {
-    if i < s.len() {
-        s[i] = n;
-    }
-}
-
-// The smaller of a number and the length of a slice.
-pub(crate) fn at_most(n: usize, length: usize) -> usize
+// The smaller of a number and a length.
+pub(crate) fn least(n: usize, length: usize) -> usize
     ensures { λ r. ⌜ r ≤ length ⌝ }
 {
     if n < length { n } else { length }
-}
-
-// A number that follows.
-pub(crate) fn next(n: usize) -> usize {
-    std::num::wrapping_add_usize(n, 1)
-}
-
-// The number before, or 0.
-pub(crate) fn before(n: usize) -> usize {
-    if n > 0 { n - 1 } else { 0 }
 }
 
 // A sum that wraps.
@@ -57,11 +35,6 @@ pub(crate) fn wide(b: u8) -> u64 {
     b as u64
 }
 
-// A number of 32 bits in 64.
-pub(crate) fn wide_number(n: u32) -> u64 {
-    n as u64
-}
-
 // A number of 64 bits in 32, or the largest one where it does not fit.
 pub(crate) fn narrow(n: u64) -> u32 {
     if n <= 4_294_967_295 {
@@ -75,4 +48,13 @@ pub(crate) fn narrow(n: u64) -> u32 {
 pub(crate) fn mixed(digest: u64, n: u64) -> u64 {
     let times = std::num::wrapping_sub_u64(digest << 5, digest);
     std::num::wrapping_add_u64(times, n)
+}
+
+// The digest of bytes.
+pub(crate) fn bytes_digest(s: &[u8]) -> u64 {
+    let mut d = 0;
+    for i in 0..s.len() {
+        d = mixed(d, wide(at(s, i)));
+    }
+    d
 }

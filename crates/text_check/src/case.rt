@@ -1,45 +1,36 @@
-// The cases of a file: a line with a label and six numbers, and the bytes that the case gives.
-ghost use Prim.Native.Nat.{_≤_};
-ghost use lib.ListN.{length};
+// The cases of a file. A case is a line of nine numbers in columns and a label, and behind it the bytes of its text, if no case
+// before it has them.
 use crate::bytes::at;
-use crate::bytes::at_most;
 use crate::bytes::low_byte;
-use crate::bytes::next;
 use crate::bytes::put;
 use crate::bytes::sum;
 use crate::bytes::wide;
 use libc::STDOUT_FILENO;
 
-// Where the bytes that were given last start, how many they are, and where the next case starts.
-pub(crate) struct Given {
-    pub(crate) start: usize,
-    pub(crate) length: usize,
-    pub(crate) next: usize,
-}
+// The columns: where the next case starts, where the label ends, where the bytes start and how many they are, the length of
+// the text, the byte that fills it up, what is done, at which place, with which value; and the label.
+pub(crate) const NEXT: usize = 0;
 
-// A case: where its label starts, its bytes, the length of its text, the byte that fills it up, and what is done to the
-// tables or to the text.
-pub(crate) struct Case {
-    pub(crate) label: usize,
-    pub(crate) given: Given,
-    pub(crate) total: usize,
-    pub(crate) fill: u64,
-    pub(crate) what: u64,
-    pub(crate) place: usize,
-    pub(crate) value: u64,
-}
+const LABEL_END: usize = 7;
 
-// A number in a file and where it ends.
-struct Number {
-    value: u64,
-    end: usize,
-}
+const FROM: usize = 14;
+
+const GIVEN: usize = 21;
+
+pub(crate) const TOTAL: usize = 28;
+
+const FILL: usize = 35;
+
+pub(crate) const WHAT: usize = 42;
+
+pub(crate) const PLACE: usize = 49;
+
+pub(crate) const VALUE: usize = 56;
+
+const LABEL: usize = 67;
 
 // What is done in a case that sets one byte of its text.
-const SET_BYTE: u64 = 17;
-
-// From this filling on a case takes the bytes that were given last.
-const AGAIN: u64 = 256;
+const SET_BYTE: u64 = 15;
 
 // Whether a byte is a digit.
 fn is_digit(b: u8) -> bool {
@@ -56,132 +47,62 @@ fn with_digit(n: u64, b: u8) -> u64 {
 }
 
 // The number whose digits start at a place.
-fn number_from(file: &[u8], from: usize) -> Number {
-    let mut value = 0;
+fn number_from(file: &[u8], from: usize) -> u64 {
+    let mut n = 0;
     for i in from..file.len() {
         let b = at(file, i);
         if !is_digit(b) {
-            return Number { value, end: i };
+            return n;
         }
-        value = with_digit(value, b);
+        n = with_digit(n, b);
     }
-    Number {
-        value,
-        end: file.len(),
-    }
+    n
 }
 
-// Where the word that starts at a place ends: at the next space.
-fn word_end(file: &[u8], from: usize) -> usize
-    requires { ⌜ from ≤ length (now file) ⌝ }
-    ensures { λ r. ⌜ from ≤ r ⌝ }
-    ensures { λ r. ⌜ r ≤ length (now (file .entry)) ⌝ }
-{
-    for i in from..file.len() {
-        if at(file, i) == b' ' {
-            return i;
-        }
-    }
-    file.len()
-}
-
-// Where the numbers of the case that starts at a place start.
-fn numbers_start(file: &[u8], from: usize) -> usize {
-    next(word_end(file, at_most(from, file.len())))
+// The number in a column of a case.
+pub(crate) fn field(file: &[u8], case: usize, column: usize) -> u64 {
+    number_from(file, sum(case, column))
 }
 
 // Writes the label of a case.
-pub(crate) fn print_label(file: &[u8], c: Case) {
-    let start = at_most(c.label, file.len());
-    let end = word_end(file, start);
-    io::write_all(STDOUT_FILENO, &file[start..end]);
-}
-
-// A number as an index.
-fn index(n: u64) -> usize {
-    n as usize
-}
-
-// The bytes of a case: those that it gives, or those that were given last.
-fn bytes_of(last: Given, again: bool, start: usize, length: usize) -> Given {
-    let next_case = next(sum(start, length));
-    if again {
-        return Given {
-            start: last.start,
-            length: last.length,
-            next: next_case,
-        };
-    }
-    Given {
-        start,
-        length,
-        next: next_case,
+pub(crate) fn print_label(file: &[u8], case: usize) {
+    let start = sum(case, LABEL);
+    let end = field(file, case, LABEL_END) as usize;
+    if start <= end {
+        if end <= file.len() {
+            io::write_all(STDOUT_FILENO, &file[start..end]);
+        }
     }
 }
 
-// The bytes that serve again after a case: its own, unless it has none.
-pub(crate) fn given_after(last: Given, c: Case) -> Given {
-    let g = c.given;
-    if g.length > 0 {
-        return g;
-    }
-    Given {
-        start: last.start,
-        length: last.length,
-        next: g.next,
-    }
-}
-
-// The case that follows those before it.
-pub(crate) fn case_at(file: &[u8], last: Given) -> Case {
-    let length = number_from(file, numbers_start(file, last.next));
-    let total = number_from(file, next(length.end));
-    let fill = number_from(file, next(total.end));
-    let what = number_from(file, next(fill.end));
-    let place = number_from(file, next(what.end));
-    let value = number_from(file, next(place.end));
-    let bytes = bytes_of(
-        last,
-        fill.value >= AGAIN,
-        next(value.end),
-        index(length.value),
-    );
-    Case {
-        label: last.next,
-        given: bytes,
-        total: index(total.value),
-        fill: fill.value,
-        what: what.value,
-        place: index(place.value),
-        value: value.value,
-    }
-}
-
-// Whether a case sets the byte at place i of its text.
-fn is_set(c: Case, i: usize) -> bool {
-    if c.what == SET_BYTE {
-        c.place == i
+// The byte at place i of a text of so many bytes that start at a place of the file, filled up with a byte.
+fn text_byte(file: &[u8], from: usize, given: usize, fill: u8, i: usize) -> u8 {
+    if i < given {
+        at(file, sum(from, i))
     } else {
-        false
+        fill
     }
-}
-
-// The byte at place i of a case's text.
-fn text_byte(file: &[u8], c: Case, i: usize) -> u8 {
-    if is_set(c, i) {
-        return low_byte(c.value);
-    }
-    let g = c.given;
-    if i < g.length {
-        return at(file, sum(g.start, i));
-    }
-    low_byte(c.fill)
 }
 
 // Writes a case's text from the first place on.
-pub(crate) fn write_text(file: &[u8], c: Case, text: &mut [u8]) {
-    let total = c.total;
+fn write_text(file: &[u8], case: usize, text: &mut [u8]) {
+    let from = field(file, case, FROM) as usize;
+    let given = field(file, case, GIVEN) as usize;
+    let total = field(file, case, TOTAL) as usize;
+    let fill = low_byte(field(file, case, FILL));
     for i in 0..total {
-        put(text, i, text_byte(file, c, i));
+        put(text, i, text_byte(file, from, given, fill, i));
+    }
+}
+
+// Writes a case's text, with the byte that the case sets.
+pub(crate) fn make_text(file: &[u8], case: usize, text: &mut [u8]) {
+    write_text(file, case, text);
+    if field(file, case, WHAT) == SET_BYTE {
+        put(
+            text,
+            field(file, case, PLACE) as usize,
+            low_byte(field(file, case, VALUE)),
+        );
     }
 }

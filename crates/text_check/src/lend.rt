@@ -1,155 +1,122 @@
-// The parts of the tables and of the space that a case lends to reading and to writing.
-use crate::outcome::Length;
-use crate::outcome::Outcome;
-use crate::outcome::length_of;
-use crate::outcome::outcome_of;
-use crate::tables::Lent;
-use crate::tables::lent_places;
-use placement::Rack;
-use placement::Slots;
-use placement::Streams;
+// Reading or writing, on the parts of the tables and of the text that a case lends.
+ghost use Prim.Native.Nat.{_≤_};
+use crate::bytes::least;
+use crate::case::VALUE;
+use crate::case::WHAT;
+use crate::case::field;
+use reader::PlanRead;
+use reader::ReadAnswer;
+use writer::Written;
 
-// The tables in 01's order, and the space for text, as cases number them.
-pub(crate) const FILMS: u64 = 11;
+// The tables and the text, as cases number them.
+const COPY_TABLE: u64 = 11;
 
-pub(crate) const VIEWERS: u64 = 12;
+const COUNT_TABLE: u64 = 12;
 
-pub(crate) const COUNTS: u64 = 13;
+const LEFT_TABLE: u64 = 13;
 
-pub(crate) const LEFT_FILMS: u64 = 14;
+const TEXT: u64 = 14;
 
-pub(crate) const LEFT_AMOUNTS: u64 = 15;
+// What is done: reading, or writing of a rack and a number of left films.
+pub(crate) enum Task {
+    Read,
+    Write(PlanRead),
+}
 
-pub(crate) const TEXT: u64 = 16;
+// Which table is lent with fewer places, and with how many.
+pub(crate) struct Lent {
+    pub(crate) table: u64,
+    pub(crate) places: usize,
+}
 
-// What reading answers on a text and tables.
-pub(crate) fn read_plan(
-    text: &[u8],
-    films: &mut [u32],
-    viewers: &mut [u32],
+// All places are lent.
+pub(crate) fn whole() -> Lent {
+    Lent {
+        table: 0,
+        places: 0,
+    }
+}
+
+// What a case lends.
+pub(crate) fn lent_of(file: &[u8], case: usize) -> Lent {
+    Lent {
+        table: field(file, case, WHAT),
+        places: field(file, case, VALUE) as usize,
+    }
+}
+
+// What was answered.
+pub(crate) enum Answer {
+    Read(ReadAnswer),
+    Written(Written),
+}
+
+// What can be done after an answer: to write the plan that was read.
+pub(crate) fn task_after(a: Answer) -> Task {
+    match a {
+        Answer::Read(r) => task_of(r),
+        Answer::Written(_) => Task::Read,
+    }
+}
+
+// The task to write the plan that was read.
+fn task_of(r: ReadAnswer) -> Task {
+    match r {
+        ReadAnswer::Plan(p) => Task::Write(p),
+        ReadAnswer::Refused(_) => Task::Read,
+    }
+}
+
+// How many places of a table are lent.
+fn part(l: Lent, table: u64, length: usize) -> usize
+    ensures { λ r. ⌜ r ≤ length ⌝ }
+{
+    if l.table == table {
+        least(l.places, length)
+    } else {
+        length
+    }
+}
+
+// Reads the text into the tables, or writes the tables to the text.
+fn perform(
+    task: Task,
+    text: &mut [u8],
+    copies: &mut [u64],
     counts: &mut [u32],
-    left: &mut [u32],
-    amounts: &mut [u32],
-) -> Outcome {
-    outcome_of(reader::read(text, films, viewers, counts, left, amounts))
+    left: &mut [u64],
+) -> Answer {
+    match task {
+        Task::Read => Answer::Read(reader::read(text, copies, counts, left)),
+        Task::Write(p) => Answer::Written(writer::write(
+            p.rack,
+            copies,
+            counts,
+            left,
+            p.left,
+            text,
+        )),
+    }
 }
 
-// What the judgement answers on a text.
-pub(crate) fn judge_plan(text: &[u8]) -> Outcome {
-    outcome_of(reader::judge_text(text))
-}
-
-// What reading answers, on the lent part of the count table and of the left table.
-fn read_counts(
+// Does a task on the lent parts.
+pub(crate) fn lend(
     l: Lent,
-    text: &[u8],
-    films: &mut [u32],
-    viewers: &mut [u32],
+    task: Task,
+    text: &mut [u8],
+    copies: &mut [u64],
     counts: &mut [u32],
-    left: &mut [u32],
-    amounts: &mut [u32],
-) -> Outcome {
-    let n = lent_places(l, COUNTS, counts.len());
-    let f = lent_places(l, LEFT_FILMS, left.len());
-    let a = lent_places(l, LEFT_AMOUNTS, amounts.len());
-    read_plan(
-        text,
-        films,
-        viewers,
-        &mut counts[..n],
-        &mut left[..f],
-        &mut amounts[..a],
-    )
-}
-
-// What reading answers, on the lent parts of the tables.
-pub(crate) fn read_lent(
-    l: Lent,
-    text: &[u8],
-    films: &mut [u32],
-    viewers: &mut [u32],
-    counts: &mut [u32],
-    left: &mut [u32],
-    amounts: &mut [u32],
-) -> Outcome {
-    let f = lent_places(l, FILMS, films.len());
-    let v = lent_places(l, VIEWERS, viewers.len());
-    read_counts(
-        l,
-        text,
-        &mut films[..f],
-        &mut viewers[..v],
-        counts,
-        left,
-        amounts,
-    )
-}
-
-// What writing answers on a rack, tables and a number of left films.
-fn write_plan(
-    o: Outcome,
-    films: &[u32],
-    viewers: &[u32],
-    counts: &[u32],
-    left: &[u32],
-    amounts: &[u32],
-    space: &mut [u8],
-) -> Length {
-    let rack = Rack {
-        disks: o.disks,
-        slots: Slots(o.slots),
-        streams: Streams(o.streams),
-    };
-    length_of(writer::write(rack, films, viewers, counts, left, amounts, o.left, space))
-}
-
-// What writing answers, on the lent part of the count table, of the left table and of the space.
-fn write_counts(
-    l: Lent,
-    o: Outcome,
-    films: &[u32],
-    viewers: &[u32],
-    counts: &[u32],
-    left: &[u32],
-    amounts: &[u32],
-    space: &mut [u8],
-) -> Length {
-    let n = lent_places(l, COUNTS, counts.len());
-    let f = lent_places(l, LEFT_FILMS, left.len());
-    let a = lent_places(l, LEFT_AMOUNTS, amounts.len());
-    let s = lent_places(l, TEXT, space.len());
-    write_plan(
-        o,
-        films,
-        viewers,
-        &counts[..n],
-        &left[..f],
-        &amounts[..a],
-        &mut space[..s],
-    )
-}
-
-// What writing answers, on the lent parts of the tables and of the space.
-pub(crate) fn write_lent(
-    l: Lent,
-    o: Outcome,
-    films: &[u32],
-    viewers: &[u32],
-    counts: &[u32],
-    left: &[u32],
-    amounts: &[u32],
-    space: &mut [u8],
-) -> Length {
-    let f = lent_places(l, FILMS, films.len());
-    let v = lent_places(l, VIEWERS, viewers.len());
-    write_counts(
-        l,
-        o,
-        &films[..f],
-        &viewers[..v],
-        counts,
-        left,
-        amounts,
-        space,
+    left: &mut [u64],
+) -> Answer {
+    let t = part(l, TEXT, text.len());
+    let p = part(l, COPY_TABLE, copies.len());
+    let n = part(l, COUNT_TABLE, counts.len());
+    let f = part(l, LEFT_TABLE, left.len());
+    perform(
+        task,
+        &mut text[0..t],
+        &mut copies[0..p],
+        &mut counts[0..n],
+        &mut left[0..f],
     )
 }

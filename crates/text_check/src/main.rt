@@ -1,63 +1,73 @@
 // Runs texts through reading and writing, and prints what happened: lines damaged in every way that 01 names, numbers at and
-// beyond each limit, long texts, tables too short, calls of writing, and texts damaged byte by byte.
+// beyond each limit, long texts, tables too short, and calls of writing.
 mod bytes;
 mod case;
-mod damage;
-mod damaging;
 mod lend;
-mod outcome;
+mod print;
 mod reading;
 mod tables;
-mod tally;
-mod trial;
 mod writing;
 
-use damaging::damage_cases;
+use case::NEXT;
+use case::field;
+use case::make_text;
+use case::print_label;
 use libc::STDOUT_FILENO;
-use reading::read_cases;
-use writing::write_cases;
+use reading::read_case;
+use tables::SPACE;
+use tables::UNUSED_BYTE;
+use writing::write_case;
 
 // The bytes that the largest file of cases can have.
 const FILE: usize = 131_072;
 
-// Runs the cases of reading of a file.
-fn read_file(name: &[u8]) {
-    io::write_all(STDOUT_FILENO, b"reading ");
-    io::write_all(STDOUT_FILENO, name);
-    io::write_all(STDOUT_FILENO, b"\n");
+// Runs a case, of writing or of reading, and answers where the next one starts.
+fn run_case(file: &[u8], case: usize, is_writing: bool) -> usize {
+    let mut text = [UNUSED_BYTE; SPACE];
+    make_text(file, case, &mut text);
+    print_label(file, case);
+    if is_writing {
+        write_case(file, case, &mut text);
+    } else {
+        read_case(file, case, &mut text);
+    }
+    field(file, case, NEXT) as usize
+}
+
+// Runs the cases of a file.
+fn run_cases(file: &[u8], is_writing: bool) {
+    let mut case = 0;
+    for _ in 0..file.len() {
+        if case >= file.len() {
+            return;
+        }
+        case = run_case(file, case, is_writing);
+    }
+}
+
+// Reads a file and runs its cases.
+fn run_file(name: &[u8], is_writing: bool) {
     let mut file = [0u8; FILE];
     let fd = os::open_read(name);
     let n = io::read_full(fd, &mut file);
     libc::close(fd);
-    read_cases(&file[..n]);
+    run_cases(&file[..n], is_writing);
 }
 
-// Runs the cases of writing.
-fn write_file() {
-    io::write_all(STDOUT_FILENO, b"writing\n");
-    let mut file = [0u8; FILE];
-    let fd = os::open_read(b"writing");
-    let n = io::read_full(fd, &mut file);
-    libc::close(fd);
-    write_cases(&file[..n]);
-}
-
-// Runs the cases of damage.
-fn damage_file() {
-    io::write_all(STDOUT_FILENO, b"damaged\n");
-    let mut file = [0u8; FILE];
-    let fd = os::open_read(b"damaged");
-    let n = io::read_full(fd, &mut file);
-    libc::close(fd);
-    damage_cases(&file[..n]);
+// Runs the cases of reading of a file.
+fn run_reading(name: &[u8]) {
+    io::write_all(STDOUT_FILENO, b"reading ");
+    io::write_all(STDOUT_FILENO, name);
+    io::write_all(STDOUT_FILENO, b"\n");
+    run_file(name, false);
 }
 
 // Runs all cases.
 fn main() {
-    read_file(b"lines");
-    read_file(b"limits");
-    read_file(b"long");
-    read_file(b"lending");
-    write_file();
-    damage_file();
+    run_reading(b"lines");
+    run_reading(b"limits");
+    run_reading(b"long");
+    run_reading(b"lending");
+    io::write_all(STDOUT_FILENO, b"writing\n");
+    run_file(b"writing", true);
 }

@@ -1,88 +1,71 @@
-// The cases of reading: each text, and a line that says what happened to it.
-use crate::bytes::at_most;
-use crate::case::Case;
-use crate::case::Given;
-use crate::case::case_at;
-use crate::case::given_after;
-use crate::case::print_label;
-use crate::case::write_text;
-use crate::outcome::print_outcome;
-use crate::tables::Lent;
-use crate::tables::SPACE;
-use crate::trial::Trial;
-use crate::trial::run_trial;
+// The cases of reading: each text through reading and the judgement without tables, and a plan that was read through writing.
+use crate::bytes::bytes_digest;
+use crate::bytes::least;
+use crate::case::TOTAL;
+use crate::case::field;
+use crate::lend::Answer;
+use crate::lend::Lent;
+use crate::lend::Task;
+use crate::lend::lend;
+use crate::lend::lent_of;
+use crate::lend::task_after;
+use crate::lend::whole;
+use crate::print::print_answer;
+use crate::print::print_digest;
+use crate::print::print_read;
+use crate::tables::COPIES;
+use crate::tables::DISKS;
+use crate::tables::LEFT;
+use crate::tables::UNTOUCHED_TABLES;
+use crate::tables::UNUSED;
+use crate::tables::UNUSED_ENTRY;
+use crate::tables::tables_digest;
+use crate::writing::write_to_space;
 use libc::STDOUT_FILENO;
 
-// What a case lends.
-pub(crate) fn lent(c: Case) -> Lent {
-    Lent {
-        table: c.what,
-        places: c.value as usize,
-    }
-}
-
-// Writes what the tables hold after a refusal.
-fn print_untouched(is_so: bool) {
-    if is_so {
-        io::write_all(STDOUT_FILENO, b"untouched\n");
-    } else {
-        io::write_all(STDOUT_FILENO, b"touched\n");
-    }
-}
-
-// Writes whether a plan is written the same.
-fn print_written(same: bool) {
-    if same {
-        io::write_all(STDOUT_FILENO, b", written the same\n");
-    } else {
-        io::write_all(STDOUT_FILENO, b", not written the same\n");
-    }
-}
-
-// Writes what happened to a text.
-fn print_trial(t: Trial) {
-    let read = t.read;
+// Writes both answers on a text and what the tables hold.
+fn print_answers(read: Answer, text: &[u8], digest: u64) {
     io::write_all(STDOUT_FILENO, b": read ");
-    print_outcome(read);
+    print_answer(read);
     io::write_all(STDOUT_FILENO, b", judged ");
-    print_outcome(t.judged);
+    print_read(reader::judge_text(text));
     io::write_all(STDOUT_FILENO, b", tables ");
-    if read.refusal > 0 {
-        print_untouched(t.untouched);
-    } else {
-        io::print_hex(STDOUT_FILENO, t.digest, 16);
-        print_written(t.same);
-    }
+    print_digest(digest, UNTOUCHED_TABLES);
 }
 
-// Runs a case on its text and writes its line.
-fn run_case(file: &[u8], c: Case, text: &[u8]) {
-    let n = at_most(c.total, text.len());
-    let t = run_trial(lent(c), &text[..n]);
-    print_label(file, c);
-    print_trial(t);
-}
-
-// Runs the case that follows those before it.
-fn read_case(file: &[u8], last: Given) -> Given {
-    let c = case_at(file, last);
-    let mut text = [0u8; SPACE];
-    write_text(file, c, &mut text);
-    run_case(file, c, &text);
-    given_after(last, c)
-}
-
-// Runs the cases of reading of a file.
-pub(crate) fn read_cases(file: &[u8]) {
-    let mut last = Given {
-        start: 0,
-        length: 0,
-        next: 0,
+// Writes a plan that was read, and says whether the space then has the digest of the case's text.
+fn print_rewritten(
+    task: Task,
+    digest: u64,
+    copies: &mut [u64; COPIES],
+    counts: &mut [u32; DISKS],
+    left: &mut [u64; LEFT],
+) {
+    let Task::Write(_) = task else {
+        return;
     };
-    for _ in 0..file.len() {
-        if last.next >= file.len() {
-            return;
-        }
-        last = read_case(file, last);
+    let s = write_to_space(whole(), task, copies, counts, left);
+    if s.digest == digest {
+        io::write_all(STDOUT_FILENO, b", written the same");
+    } else {
+        io::write_all(STDOUT_FILENO, b", not written the same");
     }
+}
+
+// Reads a text into tables that are filled alike, and says what happened.
+fn read_text(l: Lent, text: &mut [u8], digest: u64) {
+    let mut copies = [UNUSED_ENTRY; COPIES];
+    let mut counts = [UNUSED; DISKS];
+    let mut left = [UNUSED_ENTRY; LEFT];
+    let a = lend(l, Task::Read, text, &mut copies, &mut counts, &mut left);
+    print_answers(a, text, tables_digest(&copies, &counts, &left));
+    print_rewritten(task_after(a), digest, &mut copies, &mut counts, &mut left);
+}
+
+// Runs a case of reading on its text.
+pub(crate) fn read_case(file: &[u8], case: usize, text: &mut [u8]) {
+    let digest = bytes_digest(text);
+    let n = least(field(file, case, TOTAL) as usize, text.len());
+    read_text(lent_of(file, case), &mut text[0..n], digest);
+    io::write_all(STDOUT_FILENO, b"\n");
 }

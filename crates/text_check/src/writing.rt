@@ -1,150 +1,173 @@
 // The cases of writing: tables that were read from a text, with one place or number set, and a line that says what writing gave.
-use crate::bytes::at_most;
+use crate::bytes::bytes_digest;
+use crate::bytes::least;
 use crate::bytes::narrow;
-use crate::bytes::put_number;
-use crate::case::Case;
-use crate::case::Given;
-use crate::case::case_at;
-use crate::case::given_after;
-use crate::case::print_label;
-use crate::case::write_text;
-use crate::lend::COUNTS;
-use crate::lend::FILMS;
-use crate::lend::LEFT_AMOUNTS;
-use crate::lend::LEFT_FILMS;
-use crate::lend::VIEWERS;
-use crate::lend::read_plan;
-use crate::lend::write_lent;
-use crate::outcome::Length;
-use crate::outcome::Outcome;
-use crate::outcome::print_refusal;
-use crate::reading::lent;
+use crate::case::PLACE;
+use crate::case::TOTAL;
+use crate::case::VALUE;
+use crate::case::WHAT;
+use crate::case::field;
+use crate::lend::Answer;
+use crate::lend::Lent;
+use crate::lend::Task;
+use crate::lend::lend;
+use crate::lend::lent_of;
+use crate::lend::task_after;
+use crate::lend::whole;
+use crate::print::print_answer;
+use crate::print::print_digest;
 use crate::tables::COPIES;
 use crate::tables::DISKS;
 use crate::tables::LEFT;
 use crate::tables::SPACE;
+use crate::tables::UNTOUCHED_SPACE;
 use crate::tables::UNUSED;
 use crate::tables::UNUSED_BYTE;
-use crate::tables::holds;
-use crate::tables::space_digest;
+use crate::tables::UNUSED_ENTRY;
+use crate::tables::wide;
 use libc::STDOUT_FILENO;
+use placement::Rack;
+use placement::Slots;
+use placement::Streams;
+use reader::PlanRead;
 
-// Sets a place of a table, if the case sets a place of that table: its number is ten less than that of lending the table.
-fn set_place(c: Case, table: u64, s: &mut [u32]) {
-    if std::num::wrapping_add_u64(c.what, 10) == table {
-        put_number(s, c.place, narrow(c.value));
+// What a case sets.
+struct Change {
+    what: u64,
+    place: usize,
+    value: u64,
+}
+
+// What writing to a space gave: the answer, and the space's digest.
+pub(crate) struct Space {
+    pub(crate) answer: Answer,
+    pub(crate) digest: u64,
+}
+
+// Writes to a space for the text.
+pub(crate) fn write_to_space(
+    l: Lent,
+    task: Task,
+    copies: &mut [u64; COPIES],
+    counts: &mut [u32; DISKS],
+    left: &mut [u64; LEFT],
+) -> Space {
+    let mut space = [UNUSED_BYTE; SPACE];
+    let answer = lend(l, task, &mut space, copies, counts, left);
+    Space {
+        answer,
+        digest: bytes_digest(&space),
     }
 }
 
-// The rack and the number of left films that are stated: those read, or the one that the case sets.
-fn stated(c: Case, mut o: Outcome) -> Outcome {
-    let n = narrow(c.value);
-    let what = c.what;
-    match what {
-        6 => o.disks = n,
-        7 => o.slots = n,
-        8 => o.streams = n,
-        9 => o.left = n,
-        _ => {}
+// An entry with what the case sets in it: `film` is the case's number for its film, `number` that for its viewers or amount.
+fn with_change(h: Change, film: u64, number: u64, entry: u64) -> u64 {
+    if h.what == film {
+        return (entry >> 32 << 32) | wide(narrow(h.value));
     }
-    o
+    if h.what == number {
+        return (entry & 4_294_967_295) | (wide(narrow(h.value)) << 32);
+    }
+    entry
 }
 
-// Writes what happened to the space: untouched by a refusal, or the digest of what it holds.
-fn print_space(w: Length, space: &[u8; SPACE]) {
-    if w.refusal > 0 {
-        print_refusal(w.refusal, 0);
-        if holds(space, b"") {
-            io::write_all(STDOUT_FILENO, b", space untouched\n");
-        } else {
-            io::write_all(STDOUT_FILENO, b", space touched\n");
+// Sets what the case sets in a table of entries.
+fn set_entry(h: Change, film: u64, number: u64, s: &mut [u64]) {
+    let i = h.place;
+    if i < s.len() {
+        s[i] = with_change(h, film, number, s[i]);
+    }
+}
+
+// Sets a count, if the case sets one.
+fn set_count(h: Change, s: &mut [u32]) {
+    let i = h.place;
+    if h.what == 3 {
+        if i < s.len() {
+            s[i] = narrow(h.value);
         }
-        return;
     }
-    io::write_all(STDOUT_FILENO, b"length ");
-    io::print_decimal(STDOUT_FILENO, w.length);
+}
+
+// A number that is stated: the one read, or the one that the case sets.
+fn stated(h: Change, what: u64, n: u32) -> u32 {
+    if h.what == what { narrow(h.value) } else { n }
+}
+
+// The rack and the number of left films that are stated.
+fn stated_plan(h: Change, p: PlanRead) -> PlanRead {
+    let read = p.rack;
+    let slots = read.slots;
+    let streams = read.streams;
+    let rack = Rack {
+        disks: stated(h, 6, read.disks),
+        slots: Slots(stated(h, 7, slots.0)),
+        streams: Streams(stated(h, 8, streams.0)),
+    };
+    PlanRead {
+        rack,
+        served: p.served,
+        unserved: p.unserved,
+        left: stated(h, 9, p.left),
+    }
+}
+
+// A task of writing with what the case sets.
+fn changed(h: Change, task: Task) -> Task {
+    match task {
+        Task::Read => Task::Read,
+        Task::Write(p) => Task::Write(stated_plan(h, p)),
+    }
+}
+
+// Sets what the case sets, writes the tables, and says what writing gave.
+fn write_changed(
+    h: Change,
+    l: Lent,
+    task: Task,
+    copies: &mut [u64; COPIES],
+    counts: &mut [u32; DISKS],
+    left: &mut [u64; LEFT],
+) {
+    set_entry(h, 1, 2, copies);
+    set_count(h, counts);
+    set_entry(h, 4, 5, left);
+    print_space(write_to_space(l, changed(h, task), copies, counts, left));
+}
+
+// Reads a text into tables, and writes them with what the case sets, on the parts that it lends.
+fn read_and_write(h: Change, l: Lent, text: &mut [u8]) {
+    let mut copies = [UNUSED_ENTRY; COPIES];
+    let mut counts = [UNUSED; DISKS];
+    let mut left = [UNUSED_ENTRY; LEFT];
+    let read = lend(
+        whole(),
+        Task::Read,
+        text,
+        &mut copies,
+        &mut counts,
+        &mut left,
+    );
+    write_changed(h, l, task_after(read), &mut copies, &mut counts, &mut left);
+}
+
+// Writes what writing gave.
+fn print_space(s: Space) {
+    io::write_all(STDOUT_FILENO, b": ");
+    let answer = s.answer;
+    print_answer(answer);
     io::write_all(STDOUT_FILENO, b", space ");
-    io::print_hex(STDOUT_FILENO, space_digest(space), 16);
+    print_digest(s.digest, UNTOUCHED_SPACE);
     io::write_all(STDOUT_FILENO, b"\n");
 }
 
-// Writes the tables of a case, and a line that says what writing gave.
-fn write_tables(
-    file: &[u8],
-    c: Case,
-    o: Outcome,
-    films: &[u32; COPIES],
-    viewers: &[u32; COPIES],
-    counts: &[u32; DISKS],
-    left: &[u32; LEFT],
-    amounts: &[u32; LEFT],
-) {
-    let mut space = [UNUSED_BYTE; SPACE];
-    let w = write_lent(
-        lent(c),
-        o,
-        films,
-        viewers,
-        counts,
-        left,
-        amounts,
-        &mut space,
-    );
-    print_label(file, c);
-    io::write_all(STDOUT_FILENO, b": ");
-    print_space(w, &space);
-}
-
-// Reads a case's text into tables, sets what the case sets, and writes them.
-fn read_and_write(file: &[u8], c: Case, text: &[u8]) {
-    let mut films = [UNUSED; COPIES];
-    let mut viewers = [UNUSED; COPIES];
-    let mut counts = [UNUSED; DISKS];
-    let mut left = [UNUSED; LEFT];
-    let mut amounts = [UNUSED; LEFT];
-    let read = read_plan(
-        text,
-        &mut films,
-        &mut viewers,
-        &mut counts,
-        &mut left,
-        &mut amounts,
-    );
-    let o = stated(c, read);
-    set_place(c, FILMS, &mut films);
-    set_place(c, VIEWERS, &mut viewers);
-    set_place(c, COUNTS, &mut counts);
-    set_place(c, LEFT_FILMS, &mut left);
-    set_place(c, LEFT_AMOUNTS, &mut amounts);
-    write_tables(file, c, o, &films, &viewers, &counts, &left, &amounts);
-}
-
-// Runs a case on its text.
-fn run_writing(file: &[u8], c: Case, text: &[u8]) {
-    let n = at_most(c.total, text.len());
-    read_and_write(file, c, &text[..n]);
-}
-
-// Runs the case that follows those before it.
-fn write_case(file: &[u8], last: Given) -> Given {
-    let c = case_at(file, last);
-    let mut text = [0u8; SPACE];
-    write_text(file, c, &mut text);
-    run_writing(file, c, &text);
-    given_after(last, c)
-}
-
-// Runs the cases of writing of a file.
-pub(crate) fn write_cases(file: &[u8]) {
-    let mut last = Given {
-        start: 0,
-        length: 0,
-        next: 0,
+// Runs a case of writing on its text.
+pub(crate) fn write_case(file: &[u8], case: usize, text: &mut [u8]) {
+    let h = Change {
+        what: field(file, case, WHAT),
+        place: field(file, case, PLACE) as usize,
+        value: field(file, case, VALUE),
     };
-    for _ in 0..file.len() {
-        if last.next >= file.len() {
-            return;
-        }
-        last = write_case(file, last);
-    }
+    let n = least(field(file, case, TOTAL) as usize, text.len());
+    read_and_write(h, lent_of(file, case), &mut text[0..n]);
 }

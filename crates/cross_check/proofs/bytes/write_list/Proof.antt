@@ -1,4 +1,4 @@
--- `cross_check::write_list` is safe and ends. Assumes nothing.
+-- `write_list` is safe and ends.
 use Prim.Native.Nat.{_≤_, _-_}
 use mathlib.Core.Path.{_≡_}
 use lib.ListN.{length}
@@ -7,33 +7,12 @@ use Rattle.cross_check.proofs.bytes.write_list.Statement.{statement}
 use Rattle.cross_check.proofs.bytes.write_list.Tie as tie
 
 abbrev Inv-loop : tie.InvT-loop
-Inv-loop c list₀ records i₀ list i = (i ≤ records) × (length list ≡ length list₀)
+Inv-loop c list₀ bytes i₀ list i = (i ≤ bytes) × (length list ≡ length list₀)
 
 abbrev μ-loop : tie.MeasureT-loop
-μ-loop c list₀ records i₀ list i = records - i
-
-loop-holds : tie.Need-loop-holds Inv-loop μ-loop
-loop-holds c = search needs
-
-write-record-requires : tie.Need-write-record-requires Inv-loop μ-loop
-write-record-requires c κs = search needs
-
-add-i : tie.Need-add-i Inv-loop μ-loop
-add-i c = search needs
-
-loop-less : tie.Need-loop-less Inv-loop μ-loop
-loop-less c = search needs
-
-loop-again : tie.Need-loop-again Inv-loop μ-loop
-loop-again c = search needs
-
-same-length : tie.Need-same-length Inv-loop μ-loop
-same-length c = search needs
-
-returns : tie.Need-returns Inv-loop μ-loop
-returns c = search needs
+μ-loop c list₀ bytes i₀ list i = bytes - i
 
 pub write-list-spec : {M : Type 1} → statement M
 write-list-spec =
-    tie.close (tie.spec Inv-loop μ-loop loop-holds write-record-requires add-i loop-less loop-again
-    same-length returns)
+    tie.close
+    (tie.spec Inv-loop μ-loop (λ c. search needs) (λ c. search needs) (λ c κs. search needs) (λ c κs. search needs) (λ c. search needs) (λ c. search needs) (λ c. search needs) (λ c. search needs) (λ c. search needs))

@@ -1,54 +1,16 @@
--- `text_check::number_from` is safe and ends. Assumes nothing.
-use Prim.Native.Nat.{_-_}
+-- `number_from` is safe and ends.
+use Prim.Native.Nat.{_≤_, _-_}
 use borrow.Author.Needs.{needs}
 use Rattle.text_check.proofs.case.number_from.Statement.{statement}
 use Rattle.text_check.proofs.case.number_from.Tie as tie
 
 abbrev Inv-loop : tie.InvT-loop
-Inv-loop file from value₀ i₀ i-end value i = Unit {0}
+Inv-loop file from n₀ i₀ i-end n i = from ≤ i
 
 abbrev μ-loop : tie.MeasureT-loop
-μ-loop file from value₀ i₀ i-end value i = i-end - i
-
-loop-holds : tie.Need-loop-holds Inv-loop μ-loop
-loop-holds c = search needs
-
-at-requires : tie.Need-at-requires Inv-loop μ-loop
-at-requires c κs = search needs
-
-is-digit-requires : tie.Need-is-digit-requires Inv-loop μ-loop
-is-digit-requires c κs = search needs
-
-returns : tie.Need-returns Inv-loop μ-loop
-returns c = search needs
-
-with-digit-requires : tie.Need-with-digit-requires Inv-loop μ-loop
-with-digit-requires c κs = search needs
-
-add-i : tie.Need-add-i Inv-loop μ-loop
-add-i c = search needs
-
-loop-less : tie.Need-loop-less Inv-loop μ-loop
-loop-less c = search needs
-
-loop-again : tie.Need-loop-again Inv-loop μ-loop
-loop-again c = search needs
-
-returns-2 : tie.Need-returns-2 Inv-loop μ-loop
-returns-2 c = search needs
+μ-loop file from n₀ i₀ i-end n i = i-end - i
 
 pub number-from-spec : {M : Type 1} → statement M
 number-from-spec =
     tie.close
-    (tie.spec
-    Inv-loop
-    μ-loop
-    loop-holds
-    at-requires
-    is-digit-requires
-    returns
-    with-digit-requires
-    add-i
-    loop-less
-    loop-again
-    returns-2)
+    (tie.spec Inv-loop μ-loop (λ c. search needs) (λ c κs. search needs) (λ c κs. search needs) (λ c. search needs) (λ c κs. search needs) (λ c. search needs) (λ c. search needs) (λ c. search needs) (λ c. search needs))

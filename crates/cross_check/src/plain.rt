@@ -1,0 +1,75 @@
+// A plain planner, written from the words of document 01 alone, that the proved planner is compared with. Its records stay in
+// the order of the file. Each disk looks for the order of its list anew, and each sum is made anew. All that it holds stands in
+// one memory of numbers: the records, the list of a disk, and the three tables. A record, a copy or a left film is an entry: the
+// film, and from bit 32 on its demand, viewers or amount.
+mod disk;
+pub(crate) mod memory;
+mod ranks;
+mod records;
+mod refusals;
+
+use disk::fill_disks;
+use memory::COPIES;
+use memory::LEFT;
+use ranks::Term;
+use ranks::put_in_order;
+use ranks::total;
+use records::read_records;
+use refusals::call_refusal;
+
+// What is asked: the rack, and how many places of each table are lent.
+pub(crate) struct Call {
+    pub(crate) disks: u32,
+    pub(crate) slots: u32,
+    pub(crate) load: u32,
+    pub(crate) copies: usize,
+    pub(crate) counts: usize,
+    pub(crate) left: usize,
+}
+
+// What planning answers: the refusal's number and second number, or 0, 0 and what the plan serves and leaves.
+pub(crate) struct Outcome {
+    pub(crate) refusal: u32,
+    pub(crate) second: u64,
+    pub(crate) served: u64,
+    pub(crate) unserved: u64,
+    pub(crate) left: u64,
+}
+
+// A refusal, zero for the rest.
+pub(crate) fn refused(refusal: u32, second: u64) -> Outcome {
+    Outcome {
+        refusal,
+        second,
+        served: 0,
+        unserved: 0,
+        left: 0,
+    }
+}
+
+// Plans the list, or refuses it.
+pub(crate) fn plan(c: Call, list: &[u8], m: &mut [u64]) -> Outcome {
+    let number = call_refusal(c, list.len());
+    if number > 0 {
+        return refused(number, 0);
+    }
+    let n = list.len() / 8;
+    let fault = read_records(list, n, m);
+    if fault.refusal > 0 {
+        return fault;
+    }
+    planned(c, n, m)
+}
+
+// Plans n records that are not refused.
+fn planned(c: Call, n: usize, m: &mut [u64]) -> Outcome {
+    let end = fill_disks(c, n, m);
+    put_in_order(m, n, true, LEFT);
+    Outcome {
+        refusal: 0,
+        second: 0,
+        served: total(m, COPIES, end, Term::Demand),
+        unserved: total(m, 0, n, Term::Demand),
+        left: total(m, 0, n, Term::Listed),
+    }
+}
