@@ -9,9 +9,9 @@
  *   and written where it is not const;
  * - what one call is lent does not overlap, except that two const arguments may.
  *
- * Tables: the copy table is `films` and `viewers`, the left table `left_films` and `left_amounts`; where the two come with
- * different counts, the shorter one is the table's length. `counts` has the number of copies of each disk. Disk d (from 1) has
- * its copies from place (d - 1) * slots on. Planning and reading set the unused copy places to 0, and writing asks for that.
+ * Tables: `copies` is the copy table, `left` the left table. An entry of either is one number, the film in its low 32 bits and
+ * the viewers or the amount in its high 32 bits. `counts` has the number of copies of each disk. Disk d (from 1) has its copies
+ * from place (d - 1) * slots on. Planning and reading set the unused copy places to 0, and writing asks for that.
  * JUGFJORD_MOST_COPIES, JUGFJORD_MOST_DISKS and JUGFJORD_MOST_LEFT places are always enough.
  *
  * `served` is the sum of viewers over all copies, `unserved` what is left in sum.
@@ -33,6 +33,25 @@ extern "C" {
 #define JUGFJORD_MOST_LEFT 1024
 #define JUGFJORD_MOST_TEXT 43885 /* bytes of the longest plan text */
 
+/* The entry of a film with its viewers or its amount. */
+static inline uint64_t jugfjord_entry(uint32_t film, uint32_t amount)
+{
+    uint64_t high = amount;
+    return (high << 32) | film;
+}
+
+/* The film of an entry. */
+static inline uint32_t jugfjord_entry_film(uint64_t entry)
+{
+    return entry & 0xffffffff;
+}
+
+/* The viewers or the amount of an entry. */
+static inline uint32_t jugfjord_entry_amount(uint64_t entry)
+{
+    return jugfjord_entry_film(entry >> 32);
+}
+
 struct jugfjord_planned {
     uint32_t number;
     uint32_t second;
@@ -46,11 +65,9 @@ struct jugfjord_planned {
  * for each record. Refusals 1, 2, 3, 7, 4, 5, 6. Less than 80 KiB of stack. */
 struct jugfjord_planned jugfjord_plan(uint32_t disks, uint32_t slots, uint32_t streams,
                                       const uint8_t *list, size_t list_count,
-                                      uint32_t *films, size_t films_count,
-                                      uint32_t *viewers, size_t viewers_count,
+                                      uint64_t *copies, size_t copies_count,
                                       uint32_t *counts, size_t counts_count,
-                                      uint32_t *left_films, size_t left_films_count,
-                                      uint32_t *left_amounts, size_t left_amounts_count);
+                                      uint64_t *left, size_t left_count);
 
 struct jugfjord_written {
     uint32_t number;
@@ -59,14 +76,12 @@ struct jugfjord_written {
 };
 
 /* Writes the plan text of the tables to the front of `text`, with no zero byte behind it; JUGFJORD_MOST_TEXT bytes are always
- * enough. `left` is the number of left films. Refusals 1, 7, 10, 11. Less than 4 KiB of stack. */
+ * enough. `left_films` is the number of left films. Refusals 1, 7, 10, 11. Less than 4 KiB of stack. */
 struct jugfjord_written jugfjord_write(uint32_t disks, uint32_t slots, uint32_t streams,
-                                       const uint32_t *films, size_t films_count,
-                                       const uint32_t *viewers, size_t viewers_count,
+                                       const uint64_t *copies, size_t copies_count,
                                        const uint32_t *counts, size_t counts_count,
-                                       const uint32_t *left_films, size_t left_films_count,
-                                       const uint32_t *left_amounts, size_t left_amounts_count,
-                                       uint32_t left,
+                                       const uint64_t *left, size_t left_count,
+                                       uint32_t left_films,
                                        uint8_t *text, size_t text_count);
 
 struct jugfjord_read_plan {
@@ -80,13 +95,12 @@ struct jugfjord_read_plan {
     uint64_t unserved;
 };
 
-/* Reads a plan text into the tables, which need disks * slots copy places, `disks` counts and a place for each left film. Refusals 8, 9 with the line, 7. Less than 32 KiB of stack. */
+/* Reads a plan text into the tables, which need disks * slots copy places, `disks` counts and a place for each left film.
+ * Refusals 8, 9 with the line, 7. Less than 32 KiB of stack. */
 struct jugfjord_read_plan jugfjord_read(const uint8_t *text, size_t text_count,
-                                        uint32_t *films, size_t films_count,
-                                        uint32_t *viewers, size_t viewers_count,
+                                        uint64_t *copies, size_t copies_count,
                                         uint32_t *counts, size_t counts_count,
-                                        uint32_t *left_films, size_t left_films_count,
-                                        uint32_t *left_amounts, size_t left_amounts_count);
+                                        uint64_t *left, size_t left_count);
 
 #ifdef __cplusplus
 }

@@ -1,5 +1,8 @@
 //! The C library's functions and answers, as include/jugfjord.h declares them.
 
+#[cfg(feature = "library")]
+use crate::tables::Entry;
+
 /// What planning answers. `number` is 0, or the refusal and then all else but `second` is 0.
 #[repr(C)]
 #[derive(Clone, Copy, Debug, Default, PartialEq, Eq)]
@@ -42,33 +45,25 @@ extern "C" {
         streams: u32,
         list: *const u8,
         list_count: usize,
-        films: *mut u32,
-        films_count: usize,
-        viewers: *mut u32,
-        viewers_count: usize,
+        copies: *mut Entry,
+        copies_count: usize,
         counts: *mut u32,
         counts_count: usize,
-        left_films: *mut u32,
-        left_films_count: usize,
-        left_amounts: *mut u32,
-        left_amounts_count: usize,
+        left: *mut Entry,
+        left_count: usize,
     ) -> Planned;
 
     pub(crate) fn jugfjord_write(
         disks: u32,
         slots: u32,
         streams: u32,
-        films: *const u32,
-        films_count: usize,
-        viewers: *const u32,
-        viewers_count: usize,
+        copies: *const Entry,
+        copies_count: usize,
         counts: *const u32,
         counts_count: usize,
-        left_films: *const u32,
-        left_films_count: usize,
-        left_amounts: *const u32,
-        left_amounts_count: usize,
-        left: u32,
+        left: *const Entry,
+        left_count: usize,
+        left_films: u32,
         text: *mut u8,
         text_count: usize,
     ) -> Written;
@@ -76,15 +71,11 @@ extern "C" {
     pub(crate) fn jugfjord_read(
         text: *const u8,
         text_count: usize,
-        films: *mut u32,
-        films_count: usize,
-        viewers: *mut u32,
-        viewers_count: usize,
+        copies: *mut Entry,
+        copies_count: usize,
         counts: *mut u32,
         counts_count: usize,
-        left_films: *mut u32,
-        left_films_count: usize,
-        left_amounts: *mut u32,
-        left_amounts_count: usize,
+        left: *mut Entry,
+        left_count: usize,
     ) -> ReadPlan;
 }

@@ -1,19 +1,52 @@
-//! The three tables of a plan, as five columns.
+//! The three tables of a plan, and the entries of two of them.
+
+use std::fmt;
 
 use crate::rack::Rack;
 
-/// Films and viewers are the copy table, the two left columns are the left table.
-/// Where two columns of a table differ in length, the shorter one is the table's length.
-#[derive(Clone, Debug, Default, PartialEq, Eq)]
-pub struct Tables<Column> {
-    pub films: Column,
-    pub viewers: Column,
-    pub counts: Column,
-    pub left_films: Column,
-    pub left_amounts: Column,
+/// An entry of the copy table or of the left table: one number, the film in its low 32 bits
+/// and the viewers or the amount in its high 32 bits. So entries sort by amount, then by film.
+/// The default is that of an unused place.
+#[repr(transparent)]
+#[derive(Clone, Copy, Default, PartialEq, Eq, PartialOrd, Ord)]
+pub struct Entry(u64);
+
+impl Entry {
+    pub fn new(film: u32, amount: u32) -> Self {
+        Entry(u64::from(amount) << 32 | u64::from(film))
+    }
+
+    pub fn film(self) -> u32 {
+        self.0 as u32
+    }
+
+    pub fn amount(self) -> u32 {
+        (self.0 >> 32) as u32
+    }
 }
 
-impl Tables<Vec<u32>> {
+impl fmt::Debug for Entry {
+    fn fmt(&self, out: &mut fmt::Formatter) -> fmt::Result {
+        write!(out, "({} {})", self.film(), self.amount())
+    }
+}
+
+/// The copy table, the count table and the left table.
+#[derive(Clone, Debug, Default, PartialEq, Eq)]
+pub struct Tables<Entries, Counts> {
+    pub copies: Entries,
+    pub counts: Counts,
+    pub left: Entries,
+}
+
+/// Tables of one's own.
+pub type OwnTables = Tables<Vec<Entry>, Vec<u32>>;
+/// Tables to be read.
+pub type TablesView<'a> = Tables<&'a [Entry], &'a [u32]>;
+/// Tables to be written.
+pub type LentTables<'a> = Tables<&'a mut [Entry], &'a mut [u32]>;
+
+impl OwnTables {
     /// Tables of zeros with room for any plan of this rack and so many records.
     /// They are empty for a rack out of range, which every operation refuses first.
     pub fn for_plan(rack: Rack, records: usize) -> Self {
@@ -21,56 +54,37 @@ impl Tables<Vec<u32>> {
             return Tables::default();
         }
         Tables {
-            films: vec![0; rack.places()],
-            viewers: vec![0; rack.places()],
+            copies: vec![Entry::default(); rack.places()],
             counts: vec![0; rack.disks as usize],
-            left_films: vec![0; records],
-            left_amounts: vec![0; records],
+            left: vec![Entry::default(); records],
         }
     }
 }
 
-impl<Column: AsRef<[u32]>> Tables<Column> {
-    /// The columns to be read.
-    pub fn view(&self) -> Tables<&[u32]> {
+impl<Entries: AsRef<[Entry]>, Counts: AsRef<[u32]>> Tables<Entries, Counts> {
+    pub fn view(&self) -> TablesView<'_> {
         Tables {
-            films: self.films.as_ref(),
-            viewers: self.viewers.as_ref(),
+            copies: self.copies.as_ref(),
             counts: self.counts.as_ref(),
-            left_films: self.left_films.as_ref(),
-            left_amounts: self.left_amounts.as_ref(),
+            left: self.left.as_ref(),
         }
-    }
-
-    /// How many entries the left table has.
-    pub fn left_len(&self) -> usize {
-        let view = self.view();
-        view.left_films.len().min(view.left_amounts.len())
-    }
-
-    /// How many entries the copy table has.
-    pub fn copies_len(&self) -> usize {
-        let view = self.view();
-        view.films.len().min(view.viewers.len())
     }
 
     /// Whether the tables have room for this rack and so many left films.
     pub fn hold(&self, rack: Rack, left: usize) -> bool {
-        self.copies_len() >= rack.places()
-            && self.view().counts.len() >= rack.disks as usize
-            && self.left_len() >= left
+        let view = self.view();
+        view.copies.len() >= rack.places()
+            && view.counts.len() >= rack.disks as usize
+            && view.left.len() >= left
     }
 }
 
-impl<Column: AsMut<[u32]>> Tables<Column> {
-    /// The columns to be written.
-    pub fn lend(&mut self) -> Tables<&mut [u32]> {
+impl<Entries: AsMut<[Entry]>, Counts: AsMut<[u32]>> Tables<Entries, Counts> {
+    pub fn lend(&mut self) -> LentTables<'_> {
         Tables {
-            films: self.films.as_mut(),
-            viewers: self.viewers.as_mut(),
+            copies: self.copies.as_mut(),
             counts: self.counts.as_mut(),
-            left_films: self.left_films.as_mut(),
-            left_amounts: self.left_amounts.as_mut(),
+            left: self.left.as_mut(),
         }
     }
 }

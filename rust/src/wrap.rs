@@ -1,36 +1,32 @@
 //! Safe calls of the C library. The only module with unsafe code.
 //!
 //! Each call hands over slices as pointer and count. The borrows last for the whole call,
-//! columns that are written are borrowed alone, and the library keeps no pointer.
+//! tables that are written are borrowed alone, and the library keeps no pointer.
 
 #![allow(unsafe_code)]
 
 use crate::ffi::{self, Planned, ReadPlan, Written};
 use crate::rack::Rack;
-use crate::tables::Tables;
+use crate::tables::{LentTables, TablesView};
 
-/// Calls a function with some arguments, the five columns, and the arguments after them.
+/// Calls a function with some arguments, the three tables, and the arguments after them.
 macro_rules! call {
     ($function:ident, ($($before:expr),*), $tables:ident.$pointer:ident, ($($after:expr),*)) => {
         ffi::$function(
             $($before,)*
-            $tables.films.$pointer(),
-            $tables.films.len(),
-            $tables.viewers.$pointer(),
-            $tables.viewers.len(),
+            $tables.copies.$pointer(),
+            $tables.copies.len(),
             $tables.counts.$pointer(),
             $tables.counts.len(),
-            $tables.left_films.$pointer(),
-            $tables.left_films.len(),
-            $tables.left_amounts.$pointer(),
-            $tables.left_amounts.len(),
+            $tables.left.$pointer(),
+            $tables.left.len(),
             $($after),*
         )
     };
 }
 
 /// Plans a demand list into the tables. A refusal leaves the tables as they were.
-pub fn plan(rack: Rack, list: &[u8], tables: Tables<&mut [u32]>) -> Planned {
+pub fn plan(rack: Rack, list: &[u8], tables: LentTables) -> Planned {
     let (slots, streams) = (rack.slots.0, rack.streams.0);
     let (bytes, count) = (list.as_ptr(), list.len());
     // SAFETY: every pointer comes from a live slice, together with that slice's length.
@@ -46,7 +42,7 @@ pub fn plan(rack: Rack, list: &[u8], tables: Tables<&mut [u32]>) -> Planned {
 
 /// Writes the text of the plan that the tables hold, with so many left films.
 /// Bytes after the plan's text stay as they were. A refusal leaves all bytes so.
-pub fn write(rack: Rack, tables: Tables<&[u32]>, left: u32, text: &mut [u8]) -> Written {
+pub fn write(rack: Rack, tables: TablesView, left_films: u32, text: &mut [u8]) -> Written {
     let (slots, streams) = (rack.slots.0, rack.streams.0);
     let (space, count) = (text.as_mut_ptr(), text.len());
     // SAFETY: as in `plan`. The library only reads the tables.
@@ -55,13 +51,13 @@ pub fn write(rack: Rack, tables: Tables<&[u32]>, left: u32, text: &mut [u8]) -> 
             jugfjord_write,
             (rack.disks, slots, streams),
             tables.as_ptr,
-            (left, space, count)
+            (left_films, space, count)
         )
     }
 }
 
 /// Reads a plan text into the tables. A refusal leaves the tables as they were.
-pub fn read(text: &[u8], tables: Tables<&mut [u32]>) -> ReadPlan {
+pub fn read(text: &[u8], tables: LentTables) -> ReadPlan {
     let (bytes, count) = (text.as_ptr(), text.len());
     // SAFETY: as in `plan`.
     unsafe { call!(jugfjord_read, (bytes, count), tables.as_mut_ptr, ()) }

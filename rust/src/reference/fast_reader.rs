@@ -3,13 +3,12 @@
 use crate::ffi::ReadPlan;
 use crate::rack::{Rack, Slots, Streams, LAST_FILM, MOST_BYTES, MOST_DEMAND, MOST_RECORDS};
 use crate::refusal::Refusal;
-use crate::tables::Tables;
+use crate::tables::{Entry, LentTables};
 
-/// What a text holds: the pairs of all disks and then of the left line, and their numbers.
+/// What a text holds: the entries of all disks and then of the left line, and their numbers.
 struct Parsed {
     rack: Rack,
-    films: Vec<u32>,
-    amounts: Vec<u32>,
+    entries: Vec<Entry>,
     counts: Vec<u32>,
     copies: usize,
     served: u64,
@@ -17,14 +16,14 @@ struct Parsed {
 }
 
 /// Reads a plan text into the tables.
-pub fn read(text: &[u8], tables: Tables<&mut [u32]>) -> ReadPlan {
+pub fn read(text: &[u8], tables: LentTables) -> ReadPlan {
     attempt(text, tables).unwrap_or_else(ReadPlan::from)
 }
 
-fn attempt(text: &[u8], tables: Tables<&mut [u32]>) -> Result<ReadPlan, Refusal> {
+fn attempt(text: &[u8], tables: LentTables) -> Result<ReadPlan, Refusal> {
     Refusal::unless(text.len() <= MOST_BYTES, 8)?;
     let parsed = parse(text).map_err(|second| Refusal { number: 9, second })?;
-    let left = parsed.films.len() - parsed.copies;
+    let left = parsed.entries.len() - parsed.copies;
     Refusal::unless(tables.hold(parsed.rack, left), 7)?;
     store(&parsed, tables);
     Ok(ReadPlan {
@@ -45,8 +44,7 @@ fn parse(text: &[u8]) -> Result<Parsed, u32> {
     let rack = cursor.rack().ok_or(1u32)?;
     let mut parsed = Parsed {
         rack,
-        films: Vec::with_capacity(rack.places() + MOST_RECORDS),
-        amounts: Vec::with_capacity(rack.places() + MOST_RECORDS),
+        entries: Vec::with_capacity(rack.places() + MOST_RECORDS),
         counts: Vec::with_capacity(rack.disks as usize),
         copies: 0,
         served: 0,
@@ -69,11 +67,6 @@ fn parse(text: &[u8]) -> Result<Parsed, u32> {
 }
 
 impl Parsed {
-    fn push(&mut self, film: u32, amount: u32) {
-        self.films.push(film);
-        self.amounts.push(amount);
-    }
-
     fn disk(&mut self, cursor: &mut Cursor, disk: u32, holder: &mut [u8]) -> Option<()> {
         cursor.bytes(b"(disk ")?;
         (cursor.number()? == disk).then_some(())?;
@@ -85,9 +78,9 @@ impl Parsed {
             }
             *last = disk as u8;
             load += u64::from(viewers);
-            self.push(film, viewers);
+            self.entries.push(Entry::new(film, viewers));
         }
-        let count = self.films.len() - self.copies;
+        let count = self.entries.len() - self.copies;
         self.counts.push(count as u32);
         self.copies += count;
         self.served += load;
@@ -104,9 +97,9 @@ impl Parsed {
             }
             previous = film;
             self.unserved += u64::from(amount);
-            self.push(film, amount);
+            self.entries.push(Entry::new(film, amount));
         }
-        (self.films.len() - self.copies <= MOST_RECORDS).then_some(())
+        (self.entries.len() - self.copies <= MOST_RECORDS).then_some(())
     }
 
     fn sums(&self, cursor: &mut Cursor) -> Option<()> {
@@ -119,23 +112,18 @@ impl Parsed {
     }
 }
 
-fn store(parsed: &Parsed, tables: Tables<&mut [u32]>) {
+fn store(parsed: &Parsed, tables: LentTables) {
     let slots = parsed.rack.slots.0 as usize;
-    let columns = [
-        (tables.films, tables.left_films, &parsed.films),
-        (tables.viewers, tables.left_amounts, &parsed.amounts),
-    ];
-    for (places, left, values) in columns {
-        let (copies, rest) = values.split_at(parsed.copies);
-        let mut at = 0;
-        for (disk, &count) in places.chunks_exact_mut(slots).zip(&parsed.counts) {
-            let (used, free) = disk.split_at_mut(count as usize);
-            used.copy_from_slice(&copies[at..at + used.len()]);
-            free.fill(0);
-            at += used.len();
-        }
-        left[..rest.len()].copy_from_slice(rest);
+    let (copies, left) = parsed.entries.split_at(parsed.copies);
+    let disks = tables.copies.chunks_exact_mut(slots);
+    let mut at = 0;
+    for (disk, &count) in disks.zip(&parsed.counts) {
+        let (used, free) = disk.split_at_mut(count as usize);
+        used.copy_from_slice(&copies[at..at + used.len()]);
+        free.fill(Entry::default());
+        at += used.len();
     }
+    tables.left[..left.len()].copy_from_slice(left);
     tables.counts[..parsed.counts.len()].copy_from_slice(&parsed.counts);
 }
 

@@ -3,7 +3,7 @@
 use crate::ffi::Written;
 use crate::rack::{Rack, LAST_FILM, MOST_DEMAND, MOST_RECORDS};
 use crate::refusal::Refusal;
-use crate::tables::Tables;
+use crate::tables::{Entry, Tables, TablesView};
 
 /// What a pass over the plan found.
 struct Sums {
@@ -14,24 +14,22 @@ struct Sums {
 }
 
 /// Writes the text of the plan in the tables, with so many left films.
-pub fn write(rack: Rack, tables: Tables<&[u32]>, left: u32, text: &mut [u8]) -> Written {
+pub fn write(rack: Rack, tables: TablesView, left: u32, text: &mut [u8]) -> Written {
     attempt(rack, tables, left as usize, text).unwrap_or_else(Written::from)
 }
 
 fn attempt(
     rack: Rack,
-    tables: Tables<&[u32]>,
+    tables: TablesView,
     left: usize,
     text: &mut [u8],
 ) -> Result<Written, Refusal> {
     Refusal::unless(rack.in_range(), 1)?;
     Refusal::unless(tables.hold(rack, left), 7)?;
     let tables = Tables {
-        films: &tables.films[..rack.places()],
-        viewers: &tables.viewers[..rack.places()],
+        copies: &tables.copies[..rack.places()],
         counts: &tables.counts[..rack.disks as usize],
-        left_films: &tables.left_films[..left],
-        left_amounts: &tables.left_amounts[..left],
+        left: &tables.left[..left],
     };
     let sums = judge(rack, &tables).ok_or(Refusal::plain(10))?;
     let length = length(rack, &sums);
@@ -44,7 +42,7 @@ fn attempt(
 }
 
 /// Tests the plan and adds it up. Nothing where it is not well formed.
-fn judge(rack: Rack, tables: &Tables<&[u32]>) -> Option<Sums> {
+fn judge(rack: Rack, tables: &TablesView) -> Option<Sums> {
     let slots = rack.slots.0 as usize;
     let mut sums = Sums {
         served: 0,
@@ -53,12 +51,12 @@ fn judge(rack: Rack, tables: &Tables<&[u32]>) -> Option<Sums> {
     };
     // For each film the last disk that holds it.
     let mut holder = vec![0u8; LAST_FILM as usize + 1];
-    let disks = tables.films.chunks(slots).zip(tables.viewers.chunks(slots));
-    for (disk, ((films, viewers), &count)) in (1..).zip(disks.zip(tables.counts)) {
-        let (films, free) = films.split_at_checked(count as usize)?;
-        let (viewers, idle) = viewers.split_at(count as usize);
+    let disks = tables.copies.chunks(slots).zip(tables.counts);
+    for (disk, (places, &count)) in (1..).zip(disks) {
+        let (copies, free) = places.split_at_checked(count as usize)?;
         let mut load = 0;
-        for (&film, &viewers) in films.iter().zip(viewers) {
+        for &copy in copies {
+            let (film, viewers) = (copy.film(), copy.amount());
             let last = holder.get_mut(film as usize)?;
             if film == 0 || viewers == 0 || *last == disk {
                 return None;
@@ -67,7 +65,7 @@ fn judge(rack: Rack, tables: &Tables<&[u32]>) -> Option<Sums> {
             load += u64::from(viewers);
             sums.length += pair_length(film, viewers);
         }
-        if load > u64::from(rack.streams.0) || free.iter().chain(idle).any(|&place| place != 0) {
+        if load > u64::from(rack.streams.0) || free.iter().any(|&place| place != Entry::default()) {
             return None;
         }
         sums.served += load;
@@ -76,12 +74,13 @@ fn judge(rack: Rack, tables: &Tables<&[u32]>) -> Option<Sums> {
     Some(sums)
 }
 
-fn judge_left(tables: &Tables<&[u32]>, sums: &mut Sums) -> Option<()> {
-    if tables.left_films.len() > MOST_RECORDS {
+fn judge_left(tables: &TablesView, sums: &mut Sums) -> Option<()> {
+    if tables.left.len() > MOST_RECORDS {
         return None;
     }
     let mut previous = 0;
-    for (&film, &amount) in tables.left_films.iter().zip(tables.left_amounts) {
+    for &entry in tables.left {
+        let (film, amount) = (entry.film(), entry.amount());
         if film <= previous || film > LAST_FILM || amount == 0 || amount > MOST_DEMAND {
             return None;
         }
@@ -115,17 +114,17 @@ fn length(rack: Rack, sums: &Sums) -> usize {
         + sums.length
 }
 
-fn put_plan(rack: Rack, tables: &Tables<&[u32]>, sums: &Sums, mut pen: Pen) {
+fn put_plan(rack: Rack, tables: &TablesView, sums: &Sums, mut pen: Pen) {
     let slots = rack.slots.0 as usize;
     pen.line("(rack", &[rack.disks, rack.slots.0, rack.streams.0]);
-    let disks = tables.films.chunks(slots).zip(tables.viewers.chunks(slots));
-    for (disk, ((films, viewers), &count)) in (1..).zip(disks.zip(tables.counts)) {
+    let disks = tables.copies.chunks(slots).zip(tables.counts);
+    for (disk, (places, &count)) in (1..).zip(disks) {
         pen.bytes(b"(disk ");
         pen.number(disk);
-        pen.pairs(&films[..count as usize], viewers);
+        pen.pairs(&places[..count as usize]);
     }
     pen.bytes(b"(left");
-    pen.pairs(tables.left_films, tables.left_amounts);
+    pen.pairs(tables.left);
     pen.line("(served", &[sums.served as u32, sums.unserved as u32]);
 }
 
@@ -163,12 +162,12 @@ impl Pen<'_> {
     }
 
     /// The pairs and the end of their line.
-    fn pairs(&mut self, films: &[u32], amounts: &[u32]) {
-        for (&film, &amount) in films.iter().zip(amounts) {
+    fn pairs(&mut self, entries: &[Entry]) {
+        for &entry in entries {
             self.bytes(b" (");
-            self.number(film);
+            self.number(entry.film());
             self.bytes(b" ");
-            self.number(amount);
+            self.number(entry.amount());
             self.bytes(b")");
         }
         self.bytes(b")\n");

@@ -1,7 +1,10 @@
 //! A plan as a value, and when it is well formed.
 
-use crate::rack::{Rack, LAST_FILM, MOST_DEMAND, MOST_RECORDS};
-use crate::tables::Tables;
+use crate::rack::{
+    Rack, Slots, Streams, LAST_FILM, MOST_DEMAND, MOST_DISKS, MOST_RECORDS, MOST_SLOTS,
+    MOST_STREAMS,
+};
+use crate::tables::{Entry, LentTables};
 
 /// A film, then its viewers or the amount left.
 pub type Pair = (u32, u32);
@@ -42,6 +45,19 @@ pub fn left_is_well_formed(left: &[Pair]) -> bool {
 }
 
 impl Plan {
+    /// A plan whose text is as long as any: three copies a disk have viewers of five digits,
+    /// since the load admits no fourth, and the others of four.
+    pub fn largest() -> Self {
+        let viewers = |slot| if slot < 3 { 10_000 } else { 1_000 };
+        let copy = |disk: u32, slot: u32| (10_000 + MOST_DISKS * slot + disk, viewers(slot));
+        let copies = |disk| (0..MOST_SLOTS).map(|slot| copy(disk, slot)).collect();
+        Plan {
+            rack: Rack::new(MOST_DISKS, Slots(MOST_SLOTS), Streams(MOST_STREAMS)),
+            disks: (0..MOST_DISKS).map(copies).collect(),
+            left: (0..1_024).map(|at| (10_000 + at, MOST_DEMAND)).collect(),
+        }
+    }
+
     pub fn served(&self) -> u64 {
         self.disks.iter().map(|copies| total(copies)).sum()
     }
@@ -52,20 +68,17 @@ impl Plan {
 
     /// Fills the copy table with zero entries behind each disk's copies, the count table,
     /// and as much of the left table as there are left films.
-    pub fn store(&self, tables: &mut Tables<&mut [u32]>) {
+    pub fn store(&self, tables: &mut LentTables) {
         let slots = self.rack.slots.0 as usize;
-        tables.films[..self.rack.places()].fill(0);
-        tables.viewers[..self.rack.places()].fill(0);
+        tables.copies[..self.rack.places()].fill(Entry::default());
         for (disk, copies) in self.disks.iter().enumerate() {
             tables.counts[disk] = copies.len() as u32;
             for (place, &(film, viewers)) in copies.iter().enumerate() {
-                tables.films[disk * slots + place] = film;
-                tables.viewers[disk * slots + place] = viewers;
+                tables.copies[disk * slots + place] = Entry::new(film, viewers);
             }
         }
         for (place, &(film, amount)) in self.left.iter().enumerate() {
-            tables.left_films[place] = film;
-            tables.left_amounts[place] = amount;
+            tables.left[place] = Entry::new(film, amount);
         }
     }
 }

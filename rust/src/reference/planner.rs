@@ -6,7 +6,7 @@ use super::plan::{Pair, Plan};
 use crate::ffi::Planned;
 use crate::rack::{Rack, LAST_FILM, MOST_DEMAND, MOST_RECORDS, RECORD};
 use crate::refusal::Refusal;
-use crate::tables::Tables;
+use crate::tables::{Entry, LentTables};
 
 /// A film with remaining demand. The derived order is 01's: by amount, then by film.
 #[derive(Clone, Copy, PartialEq, Eq, PartialOrd, Ord)]
@@ -16,14 +16,13 @@ struct Wanted {
 }
 
 /// Plans a demand list into the tables.
-pub fn plan(rack: Rack, list: &[u8], mut tables: Tables<&mut [u32]>) -> Planned {
+pub fn plan(rack: Rack, list: &[u8], mut tables: LentTables) -> Planned {
     let demands = match judge(rack, list, &tables) {
         Ok(demands) => demands,
         Err(refusal) => return refusal.into(),
     };
     let plan = by_method(rack, &demands);
-    tables.left_films[..demands.len()].fill(0);
-    tables.left_amounts[..demands.len()].fill(0);
+    tables.left[..demands.len()].fill(Entry::default());
     plan.store(&mut tables);
     Planned {
         number: 0,
@@ -35,7 +34,7 @@ pub fn plan(rack: Rack, list: &[u8], mut tables: Tables<&mut [u32]>) -> Planned 
 }
 
 /// The list's films and demands, or the first refusal that applies.
-fn judge(rack: Rack, list: &[u8], tables: &Tables<&mut [u32]>) -> Result<Vec<Pair>, Refusal> {
+fn judge(rack: Rack, list: &[u8], tables: &LentTables) -> Result<Vec<Pair>, Refusal> {
     let count = list.len() / RECORD;
     Refusal::unless(rack.in_range(), 1)?;
     Refusal::unless(list.len().is_multiple_of(RECORD), 2)?;

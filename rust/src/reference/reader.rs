@@ -6,10 +6,10 @@ use super::writer::{disk_line, left_line, rack_line, served_line};
 use crate::ffi::ReadPlan;
 use crate::rack::{Rack, Slots, Streams, MOST_BYTES};
 use crate::refusal::Refusal;
-use crate::tables::Tables;
+use crate::tables::LentTables;
 
 /// Reads a plan text into the tables.
-pub fn read(text: &[u8], mut tables: Tables<&mut [u32]>) -> ReadPlan {
+pub fn read(text: &[u8], mut tables: LentTables) -> ReadPlan {
     let plan = match judge(text, &tables) {
         Ok(plan) => plan,
         Err(refusal) => return refusal.into(),
@@ -27,7 +27,7 @@ pub fn read(text: &[u8], mut tables: Tables<&mut [u32]>) -> ReadPlan {
     }
 }
 
-fn judge(text: &[u8], tables: &Tables<&mut [u32]>) -> Result<Plan, Refusal> {
+fn judge(text: &[u8], tables: &LentTables) -> Result<Plan, Refusal> {
     Refusal::unless(text.len() <= MOST_BYTES, 8)?;
     let plan = plan_of(text).map_err(|second| Refusal { number: 9, second })?;
     Refusal::unless(tables.hold(plan.rack, plan.left.len()), 7)?;

@@ -4,10 +4,10 @@ use super::plan::{disk_is_well_formed, left_is_well_formed, Pair, Plan};
 use crate::ffi::Written;
 use crate::rack::Rack;
 use crate::refusal::Refusal;
-use crate::tables::Tables;
+use crate::tables::{Entry, TablesView};
 
 /// Writes the text of the plan in the tables, with so many left films.
-pub fn write(rack: Rack, tables: Tables<&[u32]>, left: u32, space: &mut [u8]) -> Written {
+pub fn write(rack: Rack, tables: TablesView, left: u32, space: &mut [u8]) -> Written {
     match written(rack, tables, left, space.len()) {
         Ok(text) => {
             space[..text.len()].copy_from_slice(text.as_bytes());
@@ -20,7 +20,7 @@ pub fn write(rack: Rack, tables: Tables<&[u32]>, left: u32, space: &mut [u8]) ->
     }
 }
 
-fn written(rack: Rack, tables: Tables<&[u32]>, left: u32, space: usize) -> Result<String, Refusal> {
+fn written(rack: Rack, tables: TablesView, left: u32, space: usize) -> Result<String, Refusal> {
     Refusal::unless(rack.in_range(), 1)?;
     Refusal::unless(tables.hold(rack, left as usize), 7)?;
     let plan = gather(rack, tables, left as usize).ok_or(Refusal::plain(10))?;
@@ -30,9 +30,9 @@ fn written(rack: Rack, tables: Tables<&[u32]>, left: u32, space: usize) -> Resul
 }
 
 /// The plan that the tables hold, if it is well formed.
-fn gather(rack: Rack, tables: Tables<&[u32]>, left: usize) -> Option<Plan> {
-    let copies = pairs(tables.films, tables.viewers, rack.places());
-    let left = pairs(tables.left_films, tables.left_amounts, left);
+fn gather(rack: Rack, tables: TablesView, left: usize) -> Option<Plan> {
+    let copies = pairs(&tables.copies[..rack.places()]);
+    let left = pairs(&tables.left[..left]);
     let mut disks = Vec::new();
     for (places, &count) in copies.chunks(rack.slots.0 as usize).zip(tables.counts) {
         let used = places.get(..count as usize)?;
@@ -45,9 +45,9 @@ fn gather(rack: Rack, tables: Tables<&[u32]>, left: usize) -> Option<Plan> {
     left_is_well_formed(&left).then_some(Plan { rack, disks, left })
 }
 
-fn pairs(films: &[u32], amounts: &[u32], count: usize) -> Vec<Pair> {
-    let both = films.iter().copied().zip(amounts.iter().copied());
-    both.take(count).collect()
+fn pairs(entries: &[Entry]) -> Vec<Pair> {
+    let pair = |entry: &Entry| (entry.film(), entry.amount());
+    entries.iter().map(pair).collect()
 }
 
 /// The plan's text, well formed or not.

@@ -3,11 +3,11 @@
 use jugfjord::ffi::{Planned, ReadPlan, Written};
 use jugfjord::rack::{records, Rack, Slots, Streams};
 use jugfjord::reference::plan::{Pair, Plan};
-use jugfjord::tables::Tables;
+use jugfjord::tables::{Entry, OwnTables};
 
 use crate::subjects::{PLANNERS, READERS, WRITERS};
 
-const TEXT_A: &str = "(rack 3 4 6)
+pub const TEXT_A: &str = "(rack 3 4 6)
 (disk 1 (8 1) (9 1) (10 1) (11 3))
 (disk 2 (6 1) (7 1) (11 1) (12 3))
 (disk 3 (3 1) (4 1) (5 1) (12 1))
@@ -41,7 +41,7 @@ fn expect(rack: Rack, list: &[Pair], disks: &[&[Pair]], left: &[Pair], sums: (u6
         disks: disks.iter().map(|copies| copies.to_vec()).collect(),
         left: left.to_vec(),
     };
-    let mut stored = Tables::for_plan(rack, list.len());
+    let mut stored = OwnTables::for_plan(rack, list.len());
     plan.store(&mut stored.lend());
     let answer = Planned {
         served: sums.0,
@@ -50,7 +50,7 @@ fn expect(rack: Rack, list: &[Pair], disks: &[&[Pair]], left: &[Pair], sums: (u6
         ..Planned::default()
     };
     for (name, planner) in PLANNERS {
-        let mut tables = Tables::for_plan(rack, list.len());
+        let mut tables = OwnTables::for_plan(rack, list.len());
         let planned = planner(rack, &records(list), tables.lend());
         assert_eq!(planned, answer, "{name}");
         assert_eq!(tables, stored, "{name}");
@@ -65,12 +65,10 @@ pub fn expect_refused(rack: Rack, list: &[Pair], number: u32, second: u32) {
         ..Planned::default()
     };
     for (name, planner) in PLANNERS {
-        let mut tables = Tables {
-            films: vec![7; 2_048],
-            viewers: vec![7; 2_048],
+        let mut tables = OwnTables {
+            copies: vec![Entry::new(7, 8); 2_048],
             counts: vec![7; 64],
-            left_films: vec![7; 1_024],
-            left_amounts: vec![7; 1_024],
+            left: vec![Entry::new(7, 8); 1_024],
         };
         let before = tables.clone();
         let planned = planner(rack, &records(list), tables.lend());
@@ -80,8 +78,8 @@ pub fn expect_refused(rack: Rack, list: &[Pair], number: u32, second: u32) {
 }
 
 /// The plan of case A in its tables.
-fn tables_a() -> Tables<Vec<u32>> {
-    let mut tables = Tables::for_plan(rack(3, 4, 6), LIST_A.len());
+fn tables_a() -> OwnTables {
+    let mut tables = OwnTables::for_plan(rack(3, 4, 6), LIST_A.len());
     let planner = PLANNERS[0].1;
     planner(rack(3, 4, 6), &records(&LIST_A), tables.lend());
     tables
@@ -126,7 +124,7 @@ fn a_is_read() {
         unserved: 2,
     };
     for (name, reader) in READERS {
-        let mut tables = Tables::for_plan(rack(3, 4, 6), LIST_A.len());
+        let mut tables = OwnTables::for_plan(rack(3, 4, 6), LIST_A.len());
         assert_eq!(reader(TEXT_A.as_bytes(), tables.lend()), answer, "{name}");
         assert_eq!(tables, tables_a(), "{name}");
     }

@@ -1,10 +1,10 @@
 //! The edges that document 01 names besides its cases.
 
 use jugfjord::rack::{records, Rack, Slots, Streams};
-use jugfjord::tables::Tables;
+use jugfjord::tables::{Entry, Tables};
 
 use crate::cases::expect_refused;
-use crate::subjects::{PLANNERS, READERS};
+use crate::subjects::{PLANNERS, READERS, WRITERS};
 
 fn rack_of(disks: u32) -> Rack {
     Rack::new(disks, Slots(1), Streams(1))
@@ -78,4 +78,45 @@ fn the_wrong_line_is_named() {
             assert_eq!((read.number, read.second), (9, line), "{name}: {text:?}");
         }
     }
+}
+
+/// Asserts how each writer answers one disk of two places, the first used, and one left film.
+fn expect_written(places: [Entry; 2], left: Entry, number: u32) {
+    let rack = Rack::new(1, Slots(2), Streams(65_535));
+    let tables = Tables {
+        copies: places.to_vec(),
+        counts: vec![1],
+        left: vec![left],
+    };
+    for (name, writer) in WRITERS {
+        let written = writer(rack, tables.view(), 1, &mut [0; 100]);
+        assert_eq!(written.number, number, "{name}: {places:?} {left:?}");
+    }
+}
+
+#[test]
+fn all_bits_of_an_entry_count() {
+    let (copy, unused, left) = (Entry::new(7, 4), Entry::default(), Entry::new(3, 9));
+    expect_written([copy, unused], left, 0);
+    for film in [0, 65_536, 65_536 + 7, 1 << 31 | 7, u32::MAX] {
+        expect_written([Entry::new(film, 4), unused], left, 10);
+        expect_written([copy, unused], Entry::new(film, 9), 10);
+    }
+    for amount in [0, 1 << 20 | 4, 1 << 31 | 4, u32::MAX] {
+        expect_written([Entry::new(7, amount), unused], left, 10);
+        expect_written([copy, unused], Entry::new(3, amount), 10);
+    }
+    for bit in (0..32).map(|place| 1 << place) {
+        expect_written([copy, Entry::new(bit, 0)], left, 10);
+        expect_written([copy, Entry::new(0, bit)], left, 10);
+    }
+}
+
+#[test]
+fn the_largest_film_and_amounts_are_written() {
+    let last = |amount| Entry::new(65_535, amount);
+    let copy = |viewers| [last(viewers), Entry::default()];
+    expect_written(copy(65_535), last(1_000_000), 0);
+    expect_written(copy(65_536), last(1_000_000), 10);
+    expect_written(copy(65_535), last(1_000_001), 10);
 }

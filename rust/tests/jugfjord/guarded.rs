@@ -1,7 +1,7 @@
 //! Tables and spaces with sentinels in and around them, so that every place can be compared.
 
 use jugfjord::rack::Rack;
-use jugfjord::tables::Tables;
+use jugfjord::tables::{Entry, Tables};
 
 use crate::dice::Dice;
 
@@ -38,65 +38,63 @@ impl<T> AsMut<[T]> for Guarded<T> {
     }
 }
 
-pub type GuardedTables = Tables<Guarded<u32>>;
+pub type GuardedTables = Tables<Guarded<Entry>, Guarded<u32>>;
 
-/// The places that a rack and so many left films need, column by column.
+/// The places that a rack and so many left films need, table by table.
 #[derive(Clone, Copy)]
-pub struct Need([usize; 5]);
+pub struct Need {
+    copies: usize,
+    counts: usize,
+    left: usize,
+}
 
 impl Need {
     pub fn new(rack: Rack, left: usize) -> Self {
-        let disks = rack.disks as usize;
-        Need([rack.places(), rack.places(), disks, left, left])
+        Need {
+            copies: rack.places(),
+            counts: rack.disks as usize,
+            left,
+        }
     }
 
-    /// Tables of sentinels, exactly as long as needed or longer, each column by itself.
+    /// Tables of sentinels, exactly as long as needed or longer, each table by itself.
     pub fn met(self, dice: &mut Dice) -> GuardedTables {
-        let longer = dice.one_in(2);
-        let mut column = |at: usize| {
-            let more = if longer { dice.below(5) } else { 0 };
-            Guarded::new(self.0[at] + more, || dice.next() as u32)
-        };
+        let most = dice.pick(&[0, 4]);
+        let more = [(); 3].map(|()| dice.within(0, most) as usize);
+        let mut entry = || Entry::new(dice.next() as u32, dice.next() as u32);
         Tables {
-            films: column(0),
-            viewers: column(1),
-            counts: column(2),
-            left_films: column(3),
-            left_amounts: column(4),
+            copies: Guarded::new(self.copies + more[0], &mut entry),
+            left: Guarded::new(self.left + more[1], &mut entry),
+            counts: Guarded::new(self.counts + more[2], || dice.next() as u32),
         }
     }
 
     /// Asserts that no place beyond the needed ones changed.
     pub fn assert_rest_same(self, before: &GuardedTables, after: &GuardedTables) {
         let (before, after) = (before.view(), after.view());
-        let columns = [
-            (before.films, after.films),
-            (before.viewers, after.viewers),
-            (before.counts, after.counts),
-            (before.left_films, after.left_films),
-            (before.left_amounts, after.left_amounts),
-        ];
-        for ((before, after), from) in columns.into_iter().zip(self.0) {
-            assert_eq!(before[from..], after[from..]);
-        }
+        assert_eq!(before.copies[self.copies..], after.copies[self.copies..]);
+        assert_eq!(before.counts[self.counts..], after.counts[self.counts..]);
+        assert_eq!(before.left[self.left..], after.left[self.left..]);
     }
 
-    /// Takes one column below what is needed, mostly by one place. Gives false where the
-    /// column needs no place.
+    /// Takes one table below what is needed, mostly by one place. Gives false where the
+    /// table needs no place.
     pub fn miss(self, dice: &mut Dice, tables: &mut GuardedTables) -> bool {
-        let at = dice.below(self.0.len());
-        let column = match at {
-            0 => &mut tables.films,
-            1 => &mut tables.viewers,
-            2 => &mut tables.counts,
-            3 => &mut tables.left_films,
-            _ => &mut tables.left_amounts,
-        };
-        let need = self.0[at];
-        if need > 0 {
-            let less = if dice.one_in(4) { dice.below(need) } else { 0 };
-            column.shorten(need - 1 - less);
+        let table = dice.below(3);
+        let need = [self.copies, self.counts, self.left][table];
+        if need == 0 {
+            return false;
         }
-        need > 0
+        let len = if dice.one_in(4) {
+            dice.below(need)
+        } else {
+            need - 1
+        };
+        match table {
+            0 => tables.copies.shorten(len),
+            1 => tables.counts.shorten(len),
+            _ => tables.left.shorten(len),
+        }
+        true
     }
 }

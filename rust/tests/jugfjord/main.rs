@@ -5,6 +5,7 @@ mod cases;
 mod damage;
 mod dice;
 mod edges;
+mod every_byte;
 mod guarded;
 mod lists;
 mod planning;

@@ -2,6 +2,7 @@
 
 use jugfjord::ffi::Planned;
 use jugfjord::rack::RECORD;
+use jugfjord::tables::Entry;
 
 use crate::dice::Dice;
 use crate::guarded::{GuardedTables, Need};
@@ -87,13 +88,13 @@ fn check_rules(case: &Case, planned: &Planned, after: &GuardedTables) {
     let count = case.list.len() / RECORD;
     Need::new(case.rack, count).assert_rest_same(&case.tables, after);
     let view = after.view();
-    assert_eq!(planned.served, sum(&view.viewers[..places]));
-    assert_eq!(planned.unserved, sum(&view.left_amounts[..count]));
+    assert_eq!(planned.served, sum(&view.copies[..places]));
+    assert_eq!(planned.unserved, sum(&view.left[..count]));
     assert_eq!(planned.served + planned.unserved, total(&case.list));
 }
 
-fn sum(amounts: &[u32]) -> u64 {
-    amounts.iter().copied().map(u64::from).sum()
+fn sum(entries: &[Entry]) -> u64 {
+    entries.iter().map(|entry| u64::from(entry.amount())).sum()
 }
 
 fn total(list: &[u8]) -> u64 {

@@ -56,9 +56,10 @@ fn left(dice: &mut Dice, count: usize) -> Vec<Pair> {
 pub type Wrong = fn(&mut Dice, &mut Plan) -> Option<()>;
 
 /// Wrong plans that still fit the tables of their rack.
-pub const WRONG: [(&str, Wrong); 10] = [
+pub const WRONG: [(&str, Wrong); 11] = [
     ("film of a copy out of range", |dice, plan| {
-        copy(dice, plan)?.0 = dice.pick(&[0, LAST_FILM + 1, u32::MAX]);
+        let (film, _) = copy(dice, plan)?;
+        *film = dice.pick(&[0, LAST_FILM + 1, *film + 65_536, 1 << 31, u32::MAX]);
         Some(())
     }),
     ("film twice on a disk", |dice, plan| {
@@ -78,6 +79,11 @@ pub const WRONG: [(&str, Wrong); 10] = [
         copies[0].1 = load - others + dice.pick(&[1, 1, 65_536]);
         Some(())
     }),
+    ("viewers with a high bit", |dice, plan| {
+        let (_, viewers) = copy(dice, plan)?;
+        *viewers = dice.pick(&[*viewers + 65_536, *viewers | 1 << 31, u32::MAX]);
+        Some(())
+    }),
     ("viewers that pass 32 bits in sum", |_, plan| {
         let copies = &mut *plan.disks.iter_mut().find(|copies| copies.len() >= 2)?;
         copies[0].1 = u32::MAX;
@@ -87,7 +93,9 @@ pub const WRONG: [(&str, Wrong); 10] = [
     ("left film out of range", |dice, plan| {
         let (first, rest) = plan.left.split_first_mut()?;
         match rest.last_mut() {
-            Some(last) if dice.one_in(2) => last.0 = LAST_FILM + 1,
+            Some(last) if dice.one_in(2) => {
+                last.0 = dice.pick(&[LAST_FILM + 1, last.0 + 65_536, u32::MAX])
+            }
             _ => first.0 = 0,
         }
         Some(())
@@ -104,7 +112,8 @@ pub const WRONG: [(&str, Wrong); 10] = [
     }),
     ("left amount out of range", |dice, plan| {
         let at = dice.below(Some(plan.left.len()).filter(|&n| n > 0)?);
-        plan.left[at].1 = dice.pick(&[0, MOST_DEMAND + 1, u32::MAX]);
+        let amount = &mut plan.left[at].1;
+        *amount = dice.pick(&[0, MOST_DEMAND + 1, *amount | 1 << 31, u32::MAX]);
         Some(())
     }),
     ("1,025 left films", |dice, plan| {

@@ -16,10 +16,10 @@ use crate::tally::Tally;
 const TEXTS: usize = 200_000;
 
 /// One call of reading, and how many disks the undamaged text had.
-struct Case {
-    text: Vec<u8>,
-    tables: GuardedTables,
-    disks: u32,
+pub struct Case {
+    pub text: Vec<u8>,
+    pub tables: GuardedTables,
+    pub disks: u32,
 }
 
 #[test]
@@ -28,13 +28,7 @@ fn readers_agree_on_valid_and_damaged_texts() {
     let mut tally = Tally::new("reading");
     for _ in 0..TEXTS {
         let case = random_case(&mut dice, &mut tally);
-        let (read, after) = compare(&case);
-        tally.answer(read.number);
-        tally_line(&case, &read, &mut tally);
-        match read.number {
-            0 => write_back(&case, &read, &after),
-            _ => assert_eq!(after, case.tables),
-        }
+        check(&case, &mut tally);
     }
     let mut least = vec![
         ("accepted", 40_000),
@@ -99,6 +93,17 @@ fn damaged_text(dice: &mut Dice, plan: &Plan, tally: &mut Tally) -> Vec<u8> {
     damage(dice, &mut text);
     tally.count(name);
     text
+}
+
+/// Runs all readers on the case, and all writers on what was read. A refusal changes nothing.
+pub fn check(case: &Case, tally: &mut Tally) {
+    let (read, after) = compare(case);
+    tally.answer(read.number);
+    tally_line(case, &read, tally);
+    match read.number {
+        0 => write_back(case, &read, &after),
+        _ => assert_eq!(after, case.tables),
+    }
 }
 
 /// Runs all readers on the case and compares their answers and every place.

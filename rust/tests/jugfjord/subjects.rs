@@ -3,13 +3,13 @@
 use jugfjord::ffi::{Planned, ReadPlan, Written};
 use jugfjord::rack::Rack;
 use jugfjord::reference::{fast_reader, fast_writer, planner, reader, rolling, writer};
-use jugfjord::tables::Tables;
+use jugfjord::tables::{LentTables, TablesView};
 #[cfg(feature = "library")]
 use jugfjord::wrap;
 
-pub type Planner = fn(Rack, &[u8], Tables<&mut [u32]>) -> Planned;
-pub type Writer = fn(Rack, Tables<&[u32]>, u32, &mut [u8]) -> Written;
-pub type Reader = fn(&[u8], Tables<&mut [u32]>) -> ReadPlan;
+pub type Planner = fn(Rack, &[u8], LentTables) -> Planned;
+pub type Writer = fn(Rack, TablesView, u32, &mut [u8]) -> Written;
+pub type Reader = fn(&[u8], LentTables) -> ReadPlan;
 
 /// The first of each is the one that the others are compared with.
 pub const PLANNERS: &[(&str, Planner)] = &[

@@ -4,6 +4,7 @@ use jugfjord::ffi::Written;
 use jugfjord::rack::Rack;
 use jugfjord::reference::plan::Plan;
 use jugfjord::reference::writer::text_of;
+use jugfjord::tables::Entry;
 
 use crate::dice::Dice;
 use crate::guarded::{Guarded, GuardedTables, Need};
@@ -98,7 +99,7 @@ fn wrong_call(dice: &mut Dice, need: Need, case: &mut Case) -> Option<u32> {
         }
         1 => need.miss(dice, &mut case.tables).then_some(7),
         2 => {
-            let places = case.tables.left_len() as u32;
+            let places = case.tables.view().left.len() as u32;
             case.left = dice.pick(&[places + 1, places.max(1_024) + 1, u32::MAX]);
             Some(7)
         }
@@ -134,21 +135,26 @@ const WRONG_TABLES: [(&str, WrongTables); 3] = [
         true
     }),
     ("film in an unused place", |dice, plan, tables| {
-        mark_unused(dice, plan, tables.lend().films)
+        let film = dice.pick(&BITS);
+        mark_unused(dice, plan, tables, Entry::new(film, 0))
     }),
     ("viewers in an unused place", |dice, plan, tables| {
-        mark_unused(dice, plan, tables.lend().viewers)
+        let viewers = dice.pick(&BITS);
+        mark_unused(dice, plan, tables, Entry::new(0, viewers))
     }),
 ];
 
-/// Writes a number into the first unused place or the last place of some disk.
-fn mark_unused(dice: &mut Dice, plan: &Plan, column: &mut [u32]) -> bool {
+/// Numbers with a low bit, one in the middle, a high bit, or all.
+const BITS: [u32; 4] = [1, 1 << 16, 1 << 31, u32::MAX];
+
+/// Writes an entry into the first unused place or the last place of some disk.
+fn mark_unused(dice: &mut Dice, plan: &Plan, tables: &mut GuardedTables, entry: Entry) -> bool {
     let slots = plan.rack.slots.0 as usize;
     let disk = dice.below(plan.disks.len());
     let used = plan.disks[disk].len();
     if used < slots {
         let place = dice.pick(&[used, slots - 1]);
-        column[disk * slots + place] = dice.pick(&[1, 65_536, u32::MAX]);
+        tables.lend().copies[disk * slots + place] = entry;
     }
     used < slots
 }

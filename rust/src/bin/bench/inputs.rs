@@ -1,6 +1,6 @@
 //! What is planned, written and read.
 
-use jugfjord::rack::{Rack, Slots, Streams, MOST_DEMAND, MOST_DISKS, MOST_SLOTS, MOST_STREAMS};
+use jugfjord::rack::{Rack, Slots, Streams, MOST_DISKS};
 use jugfjord::reference::plan::{Pair, Plan};
 use jugfjord::reference::writer::text_of;
 
@@ -65,20 +65,7 @@ fn sliding_list() -> Vec<Pair> {
         .collect()
 }
 
-/// A plan whose text is as long as any: three copies a disk have viewers of five digits,
-/// since the load admits no fourth, and the others of four.
-pub fn largest_plan() -> Plan {
-    let viewers = |slot| if slot < 3 { 10_000 } else { 1_000 };
-    let copy = |disk: u32, slot: u32| (10_000 + MOST_DISKS * slot + disk, viewers(slot));
-    let copies = |disk| (0..MOST_SLOTS).map(|slot| copy(disk, slot)).collect();
-    Plan {
-        rack: Rack::new(MOST_DISKS, Slots(MOST_SLOTS), Streams(MOST_STREAMS)),
-        disks: (0..MOST_DISKS).map(copies).collect(),
-        left: (0..1_024).map(|at| (10_000 + at, MOST_DEMAND)).collect(),
-    }
-}
-
-/// Its text, which document 01's limits let grow to 43,885 bytes.
+/// The text of the largest plan, which document 01's limits let grow to 43,885 bytes.
 pub fn text(plan: &Plan) -> Vec<u8> {
     let text = text_of(plan).into_bytes();
     assert_eq!(text.len(), 43_885);

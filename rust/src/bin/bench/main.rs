@@ -9,12 +9,13 @@ use std::hint::black_box;
 use inputs::Input;
 use jugfjord::ffi::Planned;
 use jugfjord::rack::Rack;
+use jugfjord::reference::plan::Plan;
 use jugfjord::reference::{fast_reader, fast_writer, rolling};
-use jugfjord::tables::Tables;
+use jugfjord::tables::{Entry, LentTables, OwnTables};
 use jugfjord::wrap;
 use timing::{compare, Comparison};
 
-type Planner = fn(Rack, &[u8], Tables<&mut [u32]>) -> Planned;
+type Planner = fn(Rack, &[u8], LentTables) -> Planned;
 
 fn main() {
     println!("planning: library, Rust, ratio");
@@ -24,13 +25,13 @@ fn main() {
         let inserting = plan_both(&input, rolling::plan_by_insertion);
         show_time("  Rust builds its list by insertion", &inserting);
     }
-    let plan = inputs::largest_plan();
+    let plan = Plan::largest();
     let text = inputs::text(&plan);
     println!(
         "the largest plan, {} bytes: library, Rust, ratio",
         text.len()
     );
-    let mut tables = Tables::for_plan(plan.rack, plan.left.len());
+    let mut tables = OwnTables::for_plan(plan.rack, plan.left.len());
     plan.store(&mut tables.lend());
     let left = plan.left.len() as u32;
     show_speed(
@@ -45,17 +46,15 @@ fn main() {
 fn plan_both(input: &Input, rival: Planner) -> Comparison {
     let count = input.demands.len();
     let list = jugfjord::rack::records(&input.demands);
-    let fresh = || Tables::for_plan(input.rack, count);
+    let fresh = || OwnTables::for_plan(input.rack, count);
     let (mut ours, mut theirs) = (fresh(), fresh());
     let planned = wrap::plan(input.rack, &list, ours.lend());
     assert_eq!(planned, rival(input.rack, &list, theirs.lend()));
     assert_eq!(planned.number, 0);
     assert!(ours == theirs, "the tables differ");
     if input.slides {
-        assert!(
-            !ours.films.contains(&inputs::FIRST_FILM),
-            "a disk did not slide"
-        );
+        let first = |copy: &Entry| copy.film() == inputs::FIRST_FILM;
+        assert!(!ours.copies.iter().any(first), "a disk did not slide");
     }
     compare(
         || wrap::plan(black_box(input.rack), black_box(&list), ours.lend()),
@@ -64,7 +63,7 @@ fn plan_both(input: &Input, rival: Planner) -> Comparison {
 }
 
 /// Checks that both writers make this text, then times them.
-fn write_both(rack: Rack, tables: &Tables<Vec<u32>>, left: u32, text: &[u8]) -> Comparison {
+fn write_both(rack: Rack, tables: &OwnTables, left: u32, text: &[u8]) -> Comparison {
     let (mut ours, mut theirs) = (vec![0; text.len()], vec![0; text.len()]);
     let written = wrap::write(rack, tables.view(), left, &mut ours);
     let rivals = fast_writer::write(rack, tables.view(), left, &mut theirs);
@@ -77,11 +76,11 @@ fn write_both(rack: Rack, tables: &Tables<Vec<u32>>, left: u32, text: &[u8]) -> 
 }
 
 /// Checks that both readers fill these tables, then times them.
-fn read_both(tables: &Tables<Vec<u32>>, text: &[u8]) -> Comparison {
+fn read_both(tables: &OwnTables, text: &[u8]) -> Comparison {
     let (mut ours, mut theirs) = (tables.clone(), tables.clone());
     for each in [&mut ours, &mut theirs] {
-        each.films.fill(7);
-        each.left_amounts.fill(7);
+        each.copies.fill(Entry::new(7, 7));
+        each.left.fill(Entry::new(7, 7));
     }
     let read = wrap::read(text, ours.lend());
     assert_eq!(read, fast_reader::read(text, theirs.lend()));

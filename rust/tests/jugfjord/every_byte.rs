@@ -1,0 +1,109 @@
+//! Damage at every byte of some texts, through all readers.
+
+use jugfjord::rack::{Rack, Slots, MOST_SLOTS};
+use jugfjord::reference::plan::Plan;
+use jugfjord::reference::reader::plan_of;
+use jugfjord::reference::writer::text_of;
+
+use crate::cases::TEXT_A;
+use crate::dice::Dice;
+use crate::guarded::Need;
+use crate::reading::{check, Case};
+use crate::tally::Tally;
+
+const SHORT_TEXTS: [&str; 5] = [
+    TEXT_A,
+    "(rack 1 2 5)\n(disk 1 (7 4))\n(left (3 9))\n(served 4 9)\n",
+    "(rack 2 1 2)\n(disk 1)\n(disk 2)\n(left)\n(served 0 0)\n",
+    "(rack 3 2 65535)
+(disk 1 (65535 65534) (1 1))
+(disk 2)
+(disk 3 (100 90))
+(left (1 1000000) (100 10) (65535 999999))
+(served 65625 2000009)
+",
+    "(rack 10 3 70)
+(disk 1)
+(disk 2 (65535 60) (9 10))
+(disk 3)
+(disk 4)
+(disk 5)
+(disk 6)
+(disk 7)
+(disk 8)
+(disk 9)
+(disk 10 (10 1) (11 1) (12 1))
+(left (9 5) (10 1000000))
+(served 73 1000005)
+",
+];
+
+/// Damages a text at a place. A changed byte differs in these bits.
+type Damage = fn(&mut Vec<u8>, usize, u8);
+
+/// Each damage, and how many changes of a byte it tries.
+const DAMAGES: [(&str, u8, Damage); 6] = [
+    ("byte replaced", 255, |text, at, bits| text[at] ^= bits),
+    ("byte inserted", 255, |text, at, bits| {
+        text.insert(at, text[at] ^ bits)
+    }),
+    ("byte deleted", 1, |text, at, _| {
+        text.remove(at);
+    }),
+    ("byte doubled", 1, |text, at, _| text.insert(at, text[at])),
+    ("text cut", 1, |text, at, _| text.truncate(at)),
+    ("byte swapped with the next", 1, |text, at, _| {
+        let next = (at + 1).min(text.len() - 1);
+        text.swap(at, next);
+    }),
+];
+
+#[test]
+fn readers_agree_on_damage_at_every_byte() {
+    let mut tally = Tally::new("damage at every byte");
+    for text in SHORT_TEXTS {
+        damage(text.as_bytes(), 1, 255, &mut tally);
+    }
+    damage(text_of(&Plan::largest()).as_bytes(), 211, 1, &mut tally);
+    tally.close(&[
+        ("damaged text", 300_000),
+        ("byte replaced", 140_000),
+        ("byte inserted", 140_000),
+        ("byte deleted", 700),
+        ("byte doubled", 700),
+        ("text cut", 700),
+        ("byte swapped with the next", 700),
+        ("accepted", 1_000),
+        ("line of the rack", 10_000),
+        ("line of a disk", 10_000),
+        ("line of the left films", 10_000),
+        ("line of the sums", 10_000),
+        ("line behind", 5),
+    ]);
+}
+
+/// Does each damage to the text at every so many places, with at most so many changes.
+fn damage(text: &[u8], step: usize, most: u8, tally: &mut Tally) {
+    let plan = plan_of(text).expect("a text before its damage is right");
+    // Such damage may make a right text of other slots, but none of other disks.
+    let rack = Rack {
+        slots: Slots(MOST_SLOTS),
+        ..plan.rack
+    };
+    let mut case = Case {
+        text: Vec::new(),
+        tables: Need::new(rack, plan.left.len()).met(&mut Dice::new(4)),
+        disks: rack.disks,
+    };
+    for at in (0..text.len()).step_by(step) {
+        for (name, changes, damage) in DAMAGES {
+            for bits in 1..=changes.min(most) {
+                case.text = text.to_vec();
+                damage(&mut case.text, at, bits);
+                tally.count("damaged text");
+                tally.count(name);
+                check(&case, tally);
+            }
+        }
+    }
+}
