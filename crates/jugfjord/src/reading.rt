@@ -4,7 +4,7 @@ use refusal::Refusal;
 ghost use mathlib.Core.Path.{_≡_};
 ghost use Rattle.placement.specs.Tables.{tables};
 ghost use Rattle.reader.specs.Answers.{numbersOf};
-ghost use Rattle.reader.specs.Promise.{ReadPromise};
+ghost use Rattle.reader.specs.Promise.{ReadPromise, JudgePromise};
 ghost use Rattle.reader.specs.declared.answer.ReadAnswer.the-variants.{Refused};
 ghost use Rattle.jugfjord.specs.Numbers.{readFields};
 
@@ -72,4 +72,12 @@ pub extern "C" fn jugfjord_read(
         (readFields r) ⌝ }
 {
     read_numbers(reader::read(text, copies, counts, left))
+}
+
+// `reader::judge_text` with its answer as plain numbers.
+#[no_mangle]
+pub extern "C" fn jugfjord_judge(text: &[u8]) -> ReadPlan
+    ensures { λ r. ⌜ JudgePromise (now (text .entry)) (readFields r) ⌝ }
+{
+    read_numbers(reader::judge_text(text))
 }
