@@ -85,7 +85,7 @@ kept-output input =
     (λ short. ap outputOf (ap (λ (n : ℕ). take n input) (kept-short (length input) short) ∙ take-length input))
 
 -- The kept length of what is kept and more bytes is that of the whole and those bytes.
-kept-more : (n more : ℕ) → kept (kept n + more) ≡ kept (n + more)
+pub kept-more : (n more : ℕ) → kept (kept n + more) ≡ kept (n + more)
 kept-more n more =
     by-order mostKept n
     (λ long. by-order mostKept (kept n + more)

@@ -1,55 +1,38 @@
 -- `reading::count_on` ends, since its turns go down, and its count goes on from what is kept so far.
+use mathlib.Core.Path.{_≡_, refl, sym, _∙_}
+use lib.ListN.{length}
 use native.Mathlib.Omega.{arith}
-use mathlib.Core.Path.{_≡_, sym, ap, _∙_}
-use Prim.Native.Nat.{ℕ, _+_, _≤_}
-use Rattle.plan_output.specs.Input.{kept}
-use Rattle.plan_output.specs.KeepPromise.{KeepPromise}
-use Rattle.plan_output.proofs.Kept.{kept-short}
-use Rattle.plan.specs.Counted.{Counted}
+use borrow.Author.Needs.{needs}
+use Rattle.plan.proofs.OneReads.{SoFar, so-far-none, so-far-more, counted-end}
 use Rattle.plan.proofs.reading.count_on.Statement.{statement}
 use Rattle.plan.proofs.reading.count_on.Tie as tie
 
--- Without further bytes the first ones stand for the whole.
-counted-none : (first : ℕ) → first ≤ 8219 → Counted first first
-counted-none first few = record { more = 0; number = sym (kept-short first few) ∙ ap kept (let e : first ≡ first + 0 = omega arith in e) }
-
--- The count of more bytes goes on from that of those before.
-counted-more : (first before more answer : ℕ) → Counted first before → KeepPromise before more answer → Counted first answer
-counted-more first before more answer so-far promise = record {
-  more = so-far .more + more;
-  number = promise .counted (first + so-far .more) (so-far .number)
-      ∙ ap kept (let e : first + so-far .more + more ≡ first + (so-far .more + more) = omega arith in e);
-}
-
 abbrev Inv-loop : tie.InvT-loop
-Inv-loop first kept₀ turns₀ kept turns = Counted first kept
+Inv-loop first chunk₀ last₀ kept₀ turns₀ chunk last kept turns = SoFar first kept × (length chunk ≡ length chunk₀)
 
 abbrev μ-loop : tie.MeasureT-loop
-μ-loop first kept₀ turns₀ kept turns = turns
+μ-loop first chunk₀ last₀ kept₀ turns₀ chunk last kept turns = turns
 
 loop-holds : tie.Need-loop-holds Inv-loop μ-loop
-loop-holds c = counted-none _ (omega arith)
+loop-holds c = (so-far-none _ (omega arith), refl)
 
-count-some-requires : tie.Need-count-some-requires Inv-loop μ-loop
-count-some-requires c κs = tt
+-- the turn's start and its read, from where its answer is known
+abbrev turn-of : tie.After-read-next Inv-loop μ-loop → tie.At-loop Inv-loop μ-loop
+turn-of c = c .before .before .before .before
 
 returns : tie.Need-returns Inv-loop μ-loop
-returns c = c .before .before .before .loop .inv
-
-keep-requires : tie.Need-keep-requires Inv-loop μ-loop
-keep-requires c κs = tt
-
-sub-turns : tie.Need-sub-turns Inv-loop μ-loop
-sub-turns c = omega arith
-
-loop-less : tie.Need-loop-less Inv-loop μ-loop
-loop-less c = omega arith
+returns c =
+    let at-read = c .before .before .before in
+    counted-end (turn-of at-read .loop .inv .0) _ (c .match .keys2) (at-read .read-next .ensures)
 
 loop-again : tie.Need-loop-again Inv-loop μ-loop
-loop-again c = counted-more _ _ _ _ (c .before .before .before .before .loop .inv) (c .keep .ensures)
+loop-again c =
+    let at-reads = c .before in
+    let at-read = at-reads .before .before .before .before in
+    (so-far-more (turn-of at-read .loop .inv .0) (at-read .read-next .ensures) (at-reads .reads .given .1), search needs)
 
 returns-2 : tie.Need-returns-2 Inv-loop μ-loop
-returns-2 c = c .before .loop .inv
+returns-2 c = refl
 
 pub count-on-spec : {M : Type 1} → statement M
 count-on-spec =
@@ -58,10 +41,12 @@ count-on-spec =
     Inv-loop
     μ-loop
     loop-holds
-    count-some-requires
+    (λ c κs. search needs)
+    (λ c. search needs)
+    (λ c. search needs)
     returns
-    keep-requires
-    sub-turns
-    loop-less
+    (λ c. search needs)
+    (λ c. search needs)
     loop-again
+    (λ c. search needs)
     returns-2)

@@ -1,30 +1,29 @@
--- `reading::read_input` answers a number of the space's bytes, whether the input ends within the space or not.
-use mathlib.Core.Path.{sym}
-use mathlib.Core.List.{List}
-use Prim.Native.Nat.{ℕ, _+_, _≤_}
-use native.Mathlib.Omega.{arith}
-use lib.ListN.{length}
-use lib.Seq.{length-take-le}
-use Rattle.io.specs.Counts.{Counts}
-use Rattle.plan_output.proofs.Kept.{kept-most}
-use Rattle.plan.specs.Counted.{Counted}
+-- `reading::read_input` leaves nothing open: what it answers is whole, or a read failed.
+use mathlib.Core.Path.{subst}
+use Prim.Native.Nat.{ℕ}
 use borrow.Author.Needs.{needs}
+use Rattle.plan_output.specs.Input.{mostKept}
+use Rattle.plan.specs.Reads.{Filled}
+use Rattle.plan.proofs.WholeReads.{input-read}
 use Rattle.plan.proofs.reading.read_input.Statement.{statement}
 use Rattle.plan.proofs.reading.read_input.Tie as tie
 
--- A number that is no larger than a list's length counts its first elements.
-counts-of : (n : ℕ) (bytes : List ℕ) → n ≤ length bytes → Counts n bytes
-counts-of n bytes within = (within, sym (length-take-le n bytes within))
+-- What was filled is a space of the most that is kept.
+filled : (c : tie.After-fill) → Filled mostKept (c .fill .last .1 .0) (c .fill .result)
+filled c =
+    let at-start = c .before .before .before .before .before in
+    subst (λ (space : ℕ). Filled space (c .fill .last .1 .0) (c .fill .result)) (at-start .pre) (c .fill .ensures)
 
--- A count is at most what is kept of any input.
-counted-most : {first answer : ℕ} → Counted first answer → answer ≤ 8219
-counted-most {first} counted = omega (arith, counted .number, kept-most (first + counted .more))
+read-on-requires : tie.Need-read-on-requires
+read-on-requires c κs = filled (c .before .before .before .before)
 
-returns-2 : tie.Need-returns-2
-returns-2 c =
-    counts-of _ _ (omega (arith, counted-most (c .count-on .ensures)))
+returns : tie.Need-returns
+returns c =
+    let at-read = c .before .before in
+    let at-fill = at-read .before .before .before .before .before in
+    input-read (at-fill .fill .last .1 .0) (at-read .read-on .last .1 .1 .0) (at-fill .fill .result) (at-read .read-on .result)
+    (filled at-fill) (at-read .read-on .ensures)
 
 pub read-input-spec : {M : Type 1} → statement M
 read-input-spec =
-    tie.close
-    (tie.spec (λ c κs. search needs) (λ c. search needs) (λ c. search needs) (λ c κs. search needs) (λ c. search needs) returns-2)
+    tie.close (tie.spec (λ c κs. search needs) read-on-requires (λ c. search needs) (λ c. search needs) returns)

@@ -1,0 +1,2 @@
+pub mod OneReads
+pub mod WholeReads
