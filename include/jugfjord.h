@@ -1,13 +1,18 @@
 /* Jugfjord: plans for film racks, and their texts.
  *
  * Every function may be called with any numbers, any list, any text and tables of any length. It succeeds, or gives one
- * of the refusals that docs/FORMAT.md lists: `number` is 0 for success, else the refusal, with `second` where the refusal has a
- * second number, and zero for the rest. A refusal changes no byte and no entry of what the caller lent.
+ * of the refusals below: `number` is 0 for success, else the refusal, with `second` where the refusal has a second number,
+ * and zero for the rest. A refusal changes no byte and no entry of what the caller lent.
+ *
+ * No function keeps a state, so that every function may run on any number of threads at once. None allocates memory, opens a
+ * file or calls anything but memcpy and memset.
  *
  * What a caller must keep:
- * - a pointer is not NULL, is aligned for its type and is valid for its count: that many bytes or numbers can be read there,
- *   and written where it is not const;
- * - what one call is lent does not overlap, except that two const arguments may.
+ * - a pointer whose count is 1 or more is not NULL, is aligned for its type and is valid for its count: that many bytes or
+ *   numbers can be read there, and written where it is not const;
+ * - what one call is lent does not overlap, except that two const arguments may; no other thread writes to it during the call.
+ * A pointer whose count is 0 may be NULL: nothing is read or written through it. NULL with 0 is an empty list, an empty text
+ * or a table without places.
  *
  * Tables: `copies` is the copy table, `left` the left table. An entry of either is one number, the film in its low 32 bits and
  * the viewers or the amount in its high 32 bits. `counts` has the number of copies of each disk. Disk d (from 1) has its copies
@@ -16,7 +21,8 @@
  *
  * `served` is the sum of viewers over all copies, `unserved` what is left in sum.
  *
- * Link with target/staticlib/libjugfjord.a, which `rt staticlib jugfjord` writes.
+ * Link with libjugfjord.a, for x86-64 Linux: `pkg-config --cflags --libs jugfjord` after `./install`, or
+ * target/staticlib/libjugfjord.a, which `rt staticlib jugfjord` writes.
  */
 #ifndef JUGFJORD_H
 #define JUGFJORD_H
@@ -28,10 +34,28 @@
 extern "C" {
 #endif
 
+#define JUGFJORD_VERSION "0.2.0"
+#define JUGFJORD_VERSION_MAJOR 0
+#define JUGFJORD_VERSION_MINOR 2
+#define JUGFJORD_VERSION_PATCH 0
+
 #define JUGFJORD_MOST_COPIES 2048 /* disks times slots */
 #define JUGFJORD_MOST_DISKS 64
 #define JUGFJORD_MOST_LEFT 1024
 #define JUGFJORD_MOST_TEXT 43885 /* bytes of the longest plan text */
+
+/* The refusals. `second` is the record for 4, 5 and 6 and the line for 9, both from 1; it is 0 for the others. */
+#define JUGFJORD_REFUSED_RACK_OUT_OF_RANGE 1   /* disks not 1 to 64, slots not 1 to 32 or streams not 1 to 65,535 */
+#define JUGFJORD_REFUSED_LIST_LENGTH 2         /* list length no multiple of 8 */
+#define JUGFJORD_REFUSED_TOO_MANY_RECORDS 3    /* more than 1,024 records */
+#define JUGFJORD_REFUSED_FILM_OUT_OF_RANGE 4   /* film number 0 or above 65,535 */
+#define JUGFJORD_REFUSED_DEMAND_OUT_OF_RANGE 5 /* demand above 1,000,000 */
+#define JUGFJORD_REFUSED_FILM_REPEATED 6       /* film seen in an earlier record */
+#define JUGFJORD_REFUSED_TABLES_TOO_SHORT 7    /* a lent table is too short */
+#define JUGFJORD_REFUSED_TEXT_TOO_LONG 8       /* text of more than 65,536 bytes */
+#define JUGFJORD_REFUSED_LINE 9                /* the first line that no accepted text has after the lines before it */
+#define JUGFJORD_REFUSED_NOT_WELL_FORMED 10    /* the plan in the tables is not well formed */
+#define JUGFJORD_REFUSED_SPACE_TOO_SHORT 11    /* the space for the text is too short */
 
 /* The entry of a film with its viewers or its amount. */
 static inline uint64_t jugfjord_entry(uint32_t film, uint32_t amount)
@@ -90,7 +114,7 @@ struct jugfjord_read_plan {
     uint32_t disks;
     uint32_t slots;
     uint32_t streams;
-    uint32_t left; /* left films in the left table */
+    uint32_t left; /* number of left films */
     uint64_t served;
     uint64_t unserved;
 };
@@ -101,6 +125,9 @@ struct jugfjord_read_plan jugfjord_read(const uint8_t *text, size_t text_count,
                                         uint64_t *copies, size_t copies_count,
                                         uint32_t *counts, size_t counts_count,
                                         uint64_t *left, size_t left_count);
+
+/* Judges a text with no tables lent: the numbers that reading gives. Refusals 8, 9 with the line. Less than 32 KiB of stack. */
+struct jugfjord_read_plan jugfjord_judge(const uint8_t *text, size_t text_count);
 
 #ifdef __cplusplus
 }

@@ -1,0 +1,163 @@
+/* Tests of the C library at its edges: every function with NULL and count 0, and every refusal by its name. Prints a line for
+ * each call whose answer is wrong, then how many were right; the status is 0 where all were. C99 and C++. */
+#include <inttypes.h>
+#include <jugfjord.h>
+#include <stdio.h>
+
+enum { RECORDS = 1025, TEXT = 65537 };
+
+static uint64_t copies[1], left[1];
+static uint32_t counts[1];
+static uint8_t list[8 * RECORDS], text[TEXT];
+static const uint8_t empty_plan[] = "(rack 1 1 1)\n(disk 1)\n(left)\n(served 0 0)\n";
+static const size_t empty_plan_length = sizeof empty_plan - 1;
+static int right, wrong;
+
+/* Counts a call's answer as right or wrong: its number and second number. */
+static void expect(const char *call, uint32_t number, uint32_t second, uint32_t due, uint32_t due_second)
+{
+    if (number == due && second == due_second) {
+        right++;
+    } else {
+        wrong++;
+        printf("%s: %" PRIu32 " %" PRIu32 ", not %" PRIu32 " %" PRIu32 "\n", call, number, second, due, due_second);
+    }
+}
+
+/* Counts a number beside a refusal as right or wrong. */
+static void expect_number(const char *call, uint64_t number, uint64_t due)
+{
+    if (number == due) {
+        right++;
+    } else {
+        wrong++;
+        printf("%s: %" PRIu64 ", not %" PRIu64 "\n", call, number, due);
+    }
+}
+
+/* Plans the first bytes of a list on one disk, in tables of one place. Of record 1 the lowest and the
+ * third byte of its film and the third byte of its demand are given (a third byte counts 65,536s); all other bytes are 0. */
+static struct jugfjord_planned plan_record(uint8_t film_low, uint8_t film_high, uint8_t demand_high, size_t bytes)
+{
+    list[0] = film_low;
+    list[2] = film_high;
+    list[6] = demand_high;
+    return jugfjord_plan(1, 1, 1, list, bytes, copies, 1, counts, 1, left, 1);
+}
+
+/* Planning with nothing lent, and with nothing lent that it needs. */
+static void plan_of_nothing(void)
+{
+    struct jugfjord_planned p = jugfjord_plan(0, 0, 0, NULL, 0, NULL, 0, NULL, 0, NULL, 0);
+    expect("plan of no rack", p.number, p.second, JUGFJORD_REFUSED_RACK_OUT_OF_RANGE, 0);
+    p = jugfjord_plan(1, 1, 1, NULL, 0, NULL, 0, NULL, 0, NULL, 0);
+    expect("plan without tables", p.number, p.second, JUGFJORD_REFUSED_TABLES_TOO_SHORT, 0);
+    p = jugfjord_plan(1, 1, 1, NULL, 0, copies, 1, NULL, 0, NULL, 0);
+    expect("plan without counts", p.number, p.second, JUGFJORD_REFUSED_TABLES_TOO_SHORT, 0);
+    p = jugfjord_plan(1, 1, 1, NULL, 0, NULL, 0, counts, 1, NULL, 0);
+    expect("plan without copies", p.number, p.second, JUGFJORD_REFUSED_TABLES_TOO_SHORT, 0);
+    p = jugfjord_plan(1, 1, 1, list, 8, copies, 1, counts, 1, NULL, 0);
+    expect("plan without a left place", p.number, p.second, JUGFJORD_REFUSED_TABLES_TOO_SHORT, 0);
+    copies[0] = 5;
+    counts[0] = 5;
+    p = jugfjord_plan(1, 1, 1, NULL, 0, copies, 1, counts, 1, NULL, 0);
+    expect("plan of no list", p.number, p.second, 0, 0);
+    expect_number("its copy place", copies[0], 0);
+    expect_number("its count", counts[0], 0);
+}
+
+/* The refusals of a list, and one plan. */
+static void plan_of_lists(void)
+{
+    struct jugfjord_planned p = plan_record(1, 0, 0, 7);
+    expect("list of 7 bytes", p.number, p.second, JUGFJORD_REFUSED_LIST_LENGTH, 0);
+    p = plan_record(1, 0, 0, 8 * RECORDS);
+    expect("1,025 records", p.number, p.second, JUGFJORD_REFUSED_TOO_MANY_RECORDS, 0);
+    p = plan_record(0, 0, 0, 8);
+    expect("film 0", p.number, p.second, JUGFJORD_REFUSED_FILM_OUT_OF_RANGE, 1);
+    p = plan_record(0, 1, 0, 8);
+    expect("film 65,536", p.number, p.second, JUGFJORD_REFUSED_FILM_OUT_OF_RANGE, 1);
+    p = plan_record(1, 0, 16, 8);
+    expect("demand 1,048,576", p.number, p.second, JUGFJORD_REFUSED_DEMAND_OUT_OF_RANGE, 1);
+    p = plan_record(1, 0, 1, 8);
+    expect("demand 65,536", p.number, p.second, 0, 0);
+    expect_number("its viewers not served", p.unserved, 65535);
+    expect_number("its copy", copies[0], jugfjord_entry(1, 1));
+    expect_number("its left film", jugfjord_entry_film(left[0]), 1);
+    expect_number("its left amount", jugfjord_entry_amount(left[0]), 65535);
+}
+
+/* The same film in two records, with two left places. */
+static void plan_of_a_repeated_film(void)
+{
+    static const uint8_t twice[16] = {7, 0, 0, 0, 1, 0, 0, 0, 7, 0, 0, 0, 2, 0, 0, 0};
+    uint64_t two_left[2] = {3, 3};
+    struct jugfjord_planned p = jugfjord_plan(1, 1, 1, twice, sizeof twice, copies, 1, counts, 1, two_left, 2);
+    expect("film 7 twice", p.number, p.second, JUGFJORD_REFUSED_FILM_REPEATED, 2);
+    expect_number("a left place after a refusal", two_left[0], 3);
+}
+
+/* Writing with nothing lent, without space, and of tables that are no plan. */
+static void writing(void)
+{
+    struct jugfjord_written w = jugfjord_write(0, 0, 0, NULL, 0, NULL, 0, NULL, 0, 0, NULL, 0);
+    expect("write of no rack", w.number, w.second, JUGFJORD_REFUSED_RACK_OUT_OF_RANGE, 0);
+    w = jugfjord_write(1, 1, 1, NULL, 0, NULL, 0, NULL, 0, 0, NULL, 0);
+    expect("write without tables", w.number, w.second, JUGFJORD_REFUSED_TABLES_TOO_SHORT, 0);
+    copies[0] = 0;
+    counts[0] = 0;
+    w = jugfjord_write(1, 1, 1, copies, 1, counts, 1, NULL, 0, 1, text, TEXT);
+    expect("write without a left place", w.number, w.second, JUGFJORD_REFUSED_TABLES_TOO_SHORT, 0);
+    w = jugfjord_write(1, 1, 1, copies, 1, counts, 1, NULL, 0, 0, NULL, 0);
+    expect("write without space", w.number, w.second, JUGFJORD_REFUSED_SPACE_TOO_SHORT, 0);
+    w = jugfjord_write(1, 1, 1, copies, 1, counts, 1, NULL, 0, 0, text, empty_plan_length);
+    expect("write of the empty plan", w.number, w.second, 0, 0);
+    expect_number("its length", w.length, empty_plan_length);
+    counts[0] = 1;
+    w = jugfjord_write(1, 1, 1, copies, 1, counts, 1, NULL, 0, 0, NULL, 0);
+    expect("write of film 0", w.number, w.second, JUGFJORD_REFUSED_NOT_WELL_FORMED, 0);
+}
+
+/* Reading with nothing lent, and a text that is too long. */
+static void reading(void)
+{
+    struct jugfjord_read_plan r = jugfjord_read(NULL, 0, NULL, 0, NULL, 0, NULL, 0);
+    expect("read of no text", r.number, r.second, JUGFJORD_REFUSED_LINE, 1);
+    r = jugfjord_read(empty_plan, empty_plan_length, NULL, 0, NULL, 0, NULL, 0);
+    expect("read without tables", r.number, r.second, JUGFJORD_REFUSED_TABLES_TOO_SHORT, 0);
+    r = jugfjord_read(text, TEXT, NULL, 0, NULL, 0, NULL, 0);
+    expect("read of 65,537 bytes", r.number, r.second, JUGFJORD_REFUSED_TEXT_TOO_LONG, 0);
+    copies[0] = 5;
+    r = jugfjord_read(empty_plan, empty_plan_length, copies, 1, counts, 1, NULL, 0);
+    expect("read of the empty plan", r.number, r.second, 0, 0);
+    expect_number("its disks", r.disks, 1);
+    expect_number("its copy place", copies[0], 0);
+}
+
+/* Judging with nothing lent, of a text that is too long, and of the empty plan. */
+static void judging(void)
+{
+    struct jugfjord_read_plan j = jugfjord_judge(NULL, 0);
+    expect("judgement of no text", j.number, j.second, JUGFJORD_REFUSED_LINE, 1);
+    expect_number("its disks", j.disks, 0);
+    j = jugfjord_judge(text, TEXT);
+    expect("judgement of 65,537 bytes", j.number, j.second, JUGFJORD_REFUSED_TEXT_TOO_LONG, 0);
+    j = jugfjord_judge(empty_plan, empty_plan_length - 1);
+    expect("judgement of an unended line", j.number, j.second, JUGFJORD_REFUSED_LINE, 4);
+    j = jugfjord_judge(empty_plan, empty_plan_length);
+    expect("judgement of the empty plan", j.number, j.second, 0, 0);
+    expect_number("its slots", j.slots, 1);
+    expect_number("its viewers not served", j.unserved, 0);
+}
+
+int main(void)
+{
+    plan_of_nothing();
+    plan_of_lists();
+    plan_of_a_repeated_film();
+    writing();
+    reading();
+    judging();
+    printf("%d answers right, %d wrong\n", right, wrong);
+    return wrong != 0;
+}
