@@ -23,7 +23,7 @@ pub struct Written {
     pub length: u64,
 }
 
-/// What reading answers: the rack, the two sums and the number of left films.
+/// What reading and judging answer: the rack, the two sums and the number of left films.
 #[repr(C)]
 #[derive(Clone, Copy, Debug, Default, PartialEq, Eq)]
 pub struct ReadPlan {
@@ -78,4 +78,6 @@ extern "C" {
         left: *mut Entry,
         left_count: usize,
     ) -> ReadPlan;
+
+    pub(crate) fn jugfjord_judge(text: *const u8, text_count: usize) -> ReadPlan;
 }

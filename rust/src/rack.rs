@@ -37,6 +37,11 @@ impl Rack {
         }
     }
 
+    /// The largest rack in range.
+    pub fn largest() -> Self {
+        Rack::new(MOST_DISKS, Slots(MOST_SLOTS), Streams(MOST_STREAMS))
+    }
+
     pub fn in_range(self) -> bool {
         (1..=MOST_DISKS).contains(&self.disks)
             && (1..=MOST_SLOTS).contains(&self.slots.0)

@@ -1,4 +1,7 @@
-//! Refusals, and how the library's answers carry them.
+//! Refusals, their words, and how the library's answers carry them.
+
+use std::error::Error;
+use std::fmt;
 
 use crate::ffi::{Planned, ReadPlan, Written};
 
@@ -24,6 +27,85 @@ impl Refusal {
         }
     }
 }
+
+/// The words for a refusal: what it is about, what is wrong with that, and what the second
+/// number counts, if there is one.
+#[derive(Clone, Copy)]
+struct Words {
+    subject: &'static str,
+    fault: &'static str,
+    second: Option<&'static str>,
+}
+
+/// Words for a refusal without a second number.
+const fn words(subject: &'static str, fault: &'static str) -> Words {
+    Words {
+        subject,
+        fault,
+        second: None,
+    }
+}
+
+/// Words for a refusal whose second number counts these.
+const fn words_of_a(second: &'static str, subject: &'static str, fault: &'static str) -> Words {
+    Words {
+        second: Some(second),
+        ..words(subject, fault)
+    }
+}
+
+/// The words for each refusal, from number 1 on.
+const WORDS: [Words; 11] = [
+    words("a number of the rack", "is out of range"),
+    words("the list's length in bytes", "is no multiple of 8"),
+    words("the list", "has more than 1024 records"),
+    words_of_a("record", "film number", "is outside 1 to 65535"),
+    words_of_a("record", "demand", "is outside 0 to 1000000"),
+    words_of_a("record", "film", "is in the list twice"),
+    words("a lent table", "is too short"),
+    words("the text", "has more than 65536 bytes"),
+    words_of_a(
+        "line",
+        "no plan text",
+        "has this line after the lines before it",
+    ),
+    words("the plan in the tables", "is not well formed"),
+    words("the space for the text", "is too short"),
+];
+
+impl Refusal {
+    /// The words for the refusal's number.
+    fn words(self) -> Words {
+        let at = (self.number as usize).checked_sub(1);
+        let known = at.and_then(|at| WORDS.get(at));
+        *known.unwrap_or(&words("the call", "has a refusal without words"))
+    }
+
+    /// The refusal's numbers in brackets, as in `(refused 6, record 2)`.
+    pub fn numbers(self) -> String {
+        match self.words().second {
+            Some(second) => format!("(refused {}, {second} {})", self.number, self.second),
+            None => format!("(refused {})", self.number),
+        }
+    }
+
+    /// The refusal in words with the value that it is about, as in
+    /// `film 110 is in the list twice (refused 6, record 2)`.
+    pub fn about(self, value: u64) -> String {
+        let Words { subject, fault, .. } = self.words();
+        format!("{subject} {value} {fault} {}", self.numbers())
+    }
+}
+
+impl fmt::Display for Refusal {
+    /// The refusal in words, as in `film is in the list twice (refused 6, record 2)`.
+    fn fmt(&self, out: &mut fmt::Formatter) -> fmt::Result {
+        let Words { subject, fault, .. } = self.words();
+        write!(out, "{subject} {fault} {}", self.numbers())
+    }
+}
+
+impl Error for Refusal {}
 
 macro_rules! may_refuse {
     ($($answer:ty),*) => {$(

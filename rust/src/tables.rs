@@ -2,7 +2,7 @@
 
 use std::fmt;
 
-use crate::rack::Rack;
+use crate::rack::{Rack, MOST_RECORDS};
 
 /// An entry of the copy table or of the left table: one number, the film in its low 32 bits
 /// and the viewers or the amount in its high 32 bits. So entries sort by amount, then by film.
@@ -58,6 +58,11 @@ impl OwnTables {
             counts: vec![0; rack.disks as usize],
             left: vec![Entry::default(); records],
         }
+    }
+
+    /// Tables of zeros with room for any plan.
+    pub fn for_any_plan() -> Self {
+        Self::for_plan(Rack::largest(), MOST_RECORDS)
     }
 }
 

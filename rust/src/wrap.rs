@@ -62,3 +62,9 @@ pub fn read(text: &[u8], tables: LentTables) -> ReadPlan {
     // SAFETY: as in `plan`.
     unsafe { call!(jugfjord_read, (bytes, count), tables.as_mut_ptr, ()) }
 }
+
+/// Judges a plan text without tables: what reading it would answer, were every table long enough.
+pub fn judge(text: &[u8]) -> ReadPlan {
+    // SAFETY: as in `plan`.
+    unsafe { ffi::jugfjord_judge(text.as_ptr(), text.len()) }
+}

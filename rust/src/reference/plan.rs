@@ -1,9 +1,6 @@
 //! A plan as a value, and when it is well formed.
 
-use crate::rack::{
-    Rack, Slots, Streams, LAST_FILM, MOST_DEMAND, MOST_DISKS, MOST_RECORDS, MOST_SLOTS,
-    MOST_STREAMS,
-};
+use crate::rack::{Rack, LAST_FILM, MOST_DEMAND, MOST_DISKS, MOST_RECORDS, MOST_SLOTS};
 use crate::tables::{Entry, LentTables};
 
 /// A film, then its viewers or the amount left.
@@ -52,7 +49,7 @@ impl Plan {
         let copy = |disk: u32, slot: u32| (10_000 + MOST_DISKS * slot + disk, viewers(slot));
         let copies = |disk| (0..MOST_SLOTS).map(|slot| copy(disk, slot)).collect();
         Plan {
-            rack: Rack::new(MOST_DISKS, Slots(MOST_SLOTS), Streams(MOST_STREAMS)),
+            rack: Rack::largest(),
             disks: (0..MOST_DISKS).map(copies).collect(),
             left: (0..1_024).map(|at| (10_000 + at, MOST_DEMAND)).collect(),
         }
