@@ -1,0 +1,131 @@
+//! The commands that `jugfjord` has, and its help.
+
+use std::ffi::OsStr;
+use std::os::unix::ffi::OsStrExt;
+
+use crate::arguments::Arguments;
+use crate::failure::Failure;
+use crate::words::shown;
+use crate::{plan_file, planning, show};
+
+/// One command: how it is used, and what does it.
+pub struct Command {
+    pub name: &'static str,
+    /// Each use behind the name, and what it does.
+    uses: &'static [(&'static str, &'static str)],
+    /// What its help says besides.
+    more: &'static str,
+    /// The options it knows besides --help.
+    pub options: &'static [&'static str],
+    /// The files it takes, as its uses name them.
+    pub files: &'static [&'static str],
+    /// Answers what it prints on standard output.
+    pub run: fn(&Arguments) -> Result<Vec<u8>, Failure>,
+}
+
+const COMMANDS: [Command; 4] = [
+    Command {
+        name: "plan",
+        uses: &[
+            ("LIST", "print the plan text of a list file"),
+            ("--records FILE", "print the plan text of a list in records"),
+        ],
+        more: LIST_FILE,
+        options: &["--records"],
+        files: &["LIST"],
+        run: planning::plan,
+    },
+    Command {
+        name: "records",
+        uses: &[("LIST", "print a list file as the bytes that plan(1) reads")],
+        more: LIST_FILE,
+        options: &[],
+        files: &["LIST"],
+        run: planning::records,
+    },
+    Command {
+        name: "check",
+        uses: &[("PLAN", "say whether a text is a plan text")],
+        more: "",
+        options: &[],
+        files: &["PLAN"],
+        run: plan_file::check,
+    },
+    Command {
+        name: "show",
+        uses: &[("PLAN", "print a plan for people, by film and by disk")],
+        more: "\
+Bold and colour are used on a terminal only, and not where NO_COLOR is set.
+",
+        options: &[],
+        files: &["PLAN"],
+        run: show::show,
+    },
+];
+
+const LIST_FILE: &str = "\
+A list file:
+  # A night on a ferry: disks, slots and streams of a disk; then film and demand.
+  rack 4 6 40
+  101 31
+  102,24
+Spaces, tabs, a comma or a semicolon stand between numbers; # begins a comment.
+A list in records is what `jugfjord records` prints.
+";
+
+const STATUSES: &str = "\
+Exit status:
+  0  done
+  1  refused: the list cannot be planned, or the text is no plan text
+  2  not done: wrong usage, a file that cannot be read or is no list file,
+     or output that cannot be written
+With 1 and 2 standard error has one line that says why.
+";
+
+const FILES: &str = "\
+Instead of a file, - is standard input. Options may stand before or after the
+file, and -- ends them.
+";
+
+/// The command of this name.
+pub fn named(name: &OsStr) -> Result<&'static Command, Failure> {
+    let found = COMMANDS.iter().find(|command| name == command.name);
+    found.ok_or_else(|| {
+        let words = format!("there is no command '{}'", shown(name.as_bytes()));
+        Failure::usage(&words, "")
+    })
+}
+
+/// The name and the version on a line.
+pub fn version() -> String {
+    concat!("jugfjord ", env!("CARGO_PKG_VERSION"), "\n").into()
+}
+
+/// The help of the whole.
+pub fn help() -> String {
+    let uses: String = COMMANDS.iter().map(uses_of).collect();
+    let others = usage("COMMAND --help", "say more on a command")
+        + &usage("--help", "print this help")
+        + &usage("--version", "print the version");
+    format!("jugfjord: plans for film racks, by a proved library\n\nUsage:\n{uses}{others}\n{FILES}\n{STATUSES}")
+}
+
+/// The help of one command.
+pub fn help_of(command: &Command) -> String {
+    let more = match command.more {
+        "" => String::new(),
+        more => format!("{more}\n"),
+    };
+    format!("Usage:\n{}\n{more}{FILES}\n{STATUSES}", uses_of(command))
+}
+
+/// A line for each use of a command.
+fn uses_of(command: &Command) -> String {
+    let line = |(words, does): &(&str, &str)| usage(&format!("{} {words}", command.name), does);
+    command.uses.iter().map(line).collect()
+}
+
+/// A line with a use of `jugfjord` and what it does.
+fn usage(words: &str, does: &str) -> String {
+    format!("  jugfjord {words:<21}  {does}\n")
+}

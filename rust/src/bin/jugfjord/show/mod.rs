@@ -1,0 +1,62 @@
+//! `jugfjord show`: a plan for people, by film and by disk.
+
+mod disks;
+mod films;
+mod page;
+
+use jugfjord::ffi::ReadPlan;
+use jugfjord::tables::OwnTables;
+use jugfjord::wrap;
+
+use crate::arguments::Arguments;
+use crate::failure::Failure;
+use crate::{plan_file, standard};
+use page::Page;
+
+/// The plan of a text, for people.
+pub fn show(arguments: &Arguments) -> Result<Vec<u8>, Failure> {
+    let source = arguments.file(0);
+    let text = plan_file::read(source)?;
+    let mut tables = OwnTables::for_any_plan();
+    let plan = wrap::read(&text, tables.lend())
+        .accepted()
+        .map_err(|refusal| plan_file::refused(source, &text, refusal))?;
+    let mut page = Page::new(standard::may_be_coloured());
+    page.sentence(&rack(&plan));
+    page.table(films::TITLES, films::rows(&plan, &tables.view()));
+    page.table(disks::TITLES, disks::rows(&plan, &tables.view()));
+    page.sentence(&sums(&plan));
+    Ok(page.into_bytes())
+}
+
+/// The rack in words.
+fn rack(plan: &ReadPlan) -> String {
+    let disks = counted(plan.disks, "disk");
+    let slots = counted(plan.slots, "slot");
+    let streams = counted(plan.streams, "stream");
+    format!("{disks}, each with {slots} and {streams}")
+}
+
+/// S and U in words, with the share served in per cent, rounded down.
+fn sums(plan: &ReadPlan) -> String {
+    let wanted = plan.served + plan.unserved;
+    if wanted == 0 {
+        return "nothing is wanted".into();
+    }
+    let hundredths = plan.served * 10_000 / wanted;
+    let share = format!("{}.{:02} %", hundredths / 100, hundredths % 100);
+    let served = format!("served {} of {}", plan.served, counted(wanted, "viewer"));
+    let left = match plan.left {
+        0 => String::new(),
+        films => format!("; left {} of {}", plan.unserved, counted(films, "film")),
+    };
+    format!("{served}, {share}{left}")
+}
+
+/// A number of things.
+fn counted(number: impl Into<u64>, thing: &str) -> String {
+    match number.into() {
+        1 => format!("1 {thing}"),
+        number => format!("{number} {thing}s"),
+    }
+}
