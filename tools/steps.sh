@@ -46,7 +46,7 @@ open_log() {
     log=$(mktemp -t "jugfjord-$1.XXXXXX")
     trap 'mkdir -p target && mv "$log" "$kept_log"' EXIT
     echo "Log: $log; at the end $kept_log."
-    echo "Times are for two idle cores. A crate that is proved already, and has not changed, takes none."
+    echo "Times are for two idle cores."
     note_version
 }
 
@@ -62,7 +62,7 @@ duration() {
 # Ends the run because of a step: the last lines that it put into the log from byte $3 on, then where the log is.
 stop() {
     echo " FAILED with status $2. Its last lines:"
-    tail -c "+$3" "$log" | tail -n 20 | cut -c -300
+    tail -c "+$3" "$log" | tail -n 25 | cut -c -300
     echo "FAILED: $1. Log: $kept_log"
     exit "$2"
 }
@@ -71,10 +71,10 @@ stop() {
 # took. Lines that the sed script `shown` prints are shown as they come.
 #   [shown=SCRIPT] step SECONDS WORDS COMMAND...
 step() {
-    local seconds=$1 words=$2 from began=$SECONDS status
+    local seconds=$1 words=$2 about='' from began=$SECONDS status
     shift 2
-    [[ $seconds -eq 0 ]] || words+=", about $(duration "$seconds")"
-    printf '%s ...%s' "$words" "${shown:+$'\n'}"
+    [[ $seconds -eq 0 ]] || about=", about $(duration "$seconds")"
+    printf '%s%s ...%s' "$words" "$about" "${shown:+$'\n'}"
     printf '\n== %s\n' "$words" >>"$log"
     from=$(($(wc -c <"$log") + 1))
     set +e
@@ -118,6 +118,7 @@ prove_pair() {
 # Proves the named crates and what they depend on, step by step. A program is built and run as well.
 prove() {
     local pair
+    echo 'A crate that is proved already, and has not changed, takes no time.'
     while read -r -a pair; do
         prove_pair "${pair[@]}"
     done < <(levels "$@")
