@@ -57,7 +57,7 @@ const fn words_of_a(second: &'static str, subject: &'static str, fault: &'static
 /// The words for each refusal, from number 1 on.
 const WORDS: [Words; 11] = [
     words("a number of the rack", "is out of range"),
-    words("the list's length in bytes", "is no multiple of 8"),
+    words("list length", "is no multiple of 8"),
     words("the list", "has more than 1024 records"),
     words_of_a("record", "film number", "is outside 1 to 65535"),
     words_of_a("record", "demand", "is outside 0 to 1000000"),

@@ -37,7 +37,7 @@ const COMMANDS: [Command; 4] = [
     },
     Command {
         name: "records",
-        uses: &[("LIST", "print a list file as the bytes that plan(1) reads")],
+        uses: &[("LIST", "print a list file as records for plan(1)")],
         more: LIST_FILE,
         options: &[],
         files: &["LIST"],
@@ -65,12 +65,12 @@ Bold and colour are used on a terminal only, and not where NO_COLOR is set.
 
 const LIST_FILE: &str = "\
 A list file:
-  # A night on a ferry: disks, slots and streams of a disk; then film and demand.
+  # A night on a ferry: disks, slots, streams; then film and demand.
   rack 4 6 40
   101 31
   102,24
 Spaces, tabs, a comma or a semicolon stand between numbers; # begins a comment.
-A list in records is what `jugfjord records` prints.
+A list in records is what `jugfjord records` prints and plan(1) reads.
 ";
 
 const STATUSES: &str = "\

@@ -1,0 +1,114 @@
+//! Help, version and wrong usage.
+
+use crate::folder::Folder;
+
+const COMMANDS: [&str; 4] = ["plan", "records", "check", "show"];
+const STATUSES: [&str; 3] = ["  0  done", "  1  refused", "  2  not done"];
+
+#[test]
+fn help_names_every_use_and_the_exit_statuses() {
+    let help = Folder::new().run(&["--help"]).printed().to_string();
+    let uses = [
+        "plan LIST",
+        "plan --records FILE",
+        "records LIST",
+        "check PLAN",
+        "show PLAN",
+    ];
+    for words in uses {
+        assert!(
+            help.contains(&format!("\n  jugfjord {words} ")),
+            "{words} in {help}"
+        );
+    }
+    is_help(&help);
+}
+
+#[test]
+fn each_command_has_its_help() {
+    let folder = Folder::new();
+    for name in COMMANDS {
+        let help = folder.run(&[name, "--help"]);
+        assert!(
+            help.printed().contains(&format!("  jugfjord {name} ")),
+            "{name}"
+        );
+        is_help(help.printed());
+        assert_eq!(
+            folder.run(&[name, "x", "y", "--help"]).printed(),
+            help.printed()
+        );
+    }
+    assert!(folder
+        .run(&["plan", "--help"])
+        .printed()
+        .contains("plan --records FILE"));
+}
+
+/// Asserts that a help fits a terminal and has the exit statuses.
+fn is_help(help: &str) {
+    assert!(help.lines().all(|line| line.len() <= 80), "{help}");
+    for status in STATUSES {
+        assert!(help.contains(&format!("\n{status}")), "{status} in {help}");
+    }
+}
+
+#[test]
+fn the_version_is_that_of_the_package() {
+    let version = concat!("jugfjord ", env!("CARGO_PKG_VERSION"), "\n");
+    assert_eq!(Folder::new().run(&["--version"]).printed(), version);
+}
+
+#[test]
+fn the_man_page_names_the_version_and_every_command() {
+    let page = include_str!("../../../docs/man/jugfjord.1");
+    let title = page
+        .lines()
+        .find(|line| line.starts_with(".TH"))
+        .expect("a title");
+    let version = concat!("\"jugfjord ", env!("CARGO_PKG_VERSION"), "\"");
+    assert!(title.contains(version), "{title}");
+    for name in COMMANDS {
+        assert!(page.contains(&format!("\n.B jugfjord {name}\n")), "{name}");
+    }
+}
+
+#[test]
+fn wrong_usage_is_one_line() {
+    let folder = Folder::with("list.txt", "rack 1 1 1\n");
+    let wrong = [
+        (&[][..], "expected a command, see jugfjord --help"),
+        (&["plam"], "there is no command 'plam', see jugfjord --help"),
+        (
+            &["--plan"],
+            "there is no command '--plan', see jugfjord --help",
+        ),
+        (
+            &["a\nb"],
+            "there is no command 'a\\nb', see jugfjord --help",
+        ),
+        (&["plan"], "plan expects LIST, see jugfjord plan --help"),
+        (
+            &["plan", "--records"],
+            "plan expects LIST, see jugfjord plan --help",
+        ),
+        (&["show"], "show expects PLAN, see jugfjord show --help"),
+        (
+            &["plan", "list.txt", "x.txt"],
+            "plan expects no further file, found 'x.txt', see jugfjord plan --help",
+        ),
+        (
+            &["plan", "list.txt", "-x"],
+            "plan has no option '-x', see jugfjord plan --help",
+        ),
+        (
+            &["check", "--records", "x"],
+            "check has no option '--records', see jugfjord check --help",
+        ),
+    ];
+    for (arguments, words) in wrong {
+        folder
+            .run(arguments)
+            .failed(2, &format!("jugfjord: {words}"));
+    }
+}

@@ -1,0 +1,162 @@
+//! List files in every form that they may have, as plans and as records.
+
+use jugfjord::rack::{records, MOST_RECORDS};
+
+use crate::folder::{plan_input, rack, reference_text, Folder};
+
+/// The list that every form below has: rack 2 2 40 and these films.
+const FILMS: [(u32, u32); 3] = [(101, 31), (102, 24), (103, 18)];
+
+const FORMS: [(&str, &[u8]); 21] = [
+    ("spaces", b"rack 2 2 40\n101 31\n102 24\n103 18\n"),
+    ("tabs", b"rack\t2\t2\t40\n101\t31\n102\t24\n103\t18\n"),
+    (
+        "many blanks",
+        b"  rack 2  2\t\t40 \n\t101 \t 31\t\n102   24\n103 18\n",
+    ),
+    ("commas", b"rack,2,2,40\n101,31\n102,24\n103,18\n"),
+    (
+        "commas and blanks",
+        b"rack , 2 , 2\t,\t40\n101 , 31\n102, 24\n103 ,18\n",
+    ),
+    ("semicolons", b"rack;2;2;40\n101;31\n102;24\n103;18\n"),
+    (
+        "semicolons and blanks",
+        b"rack ; 2 ; 2 ; 40\n101 ; 31\n102; 24\n103 ;18\n",
+    ),
+    (
+        "each line its own",
+        b"rack 2,2;40\n101\t31\n102,24\n103;18\n",
+    ),
+    ("CRLF", b"rack 2 2 40\r\n101 31\r\n102 24\r\n103 18\r\n"),
+    (
+        "CRLF and no end",
+        b"rack 2 2 40\r\n101 31\r\n102 24\r\n103 18",
+    ),
+    (
+        "a BOM",
+        b"\xef\xbb\xbfrack 2 2 40\n101 31\n102 24\n103 18\n",
+    ),
+    (
+        "a BOM and a comment",
+        b"\xef\xbb\xbf# x\r\nrack,2,2,40\r\n101,31\r\n102,24\r\n103,18\r\n",
+    ),
+    ("no end", b"rack 2 2 40\n101 31\n102 24\n103 18"),
+    (
+        "comments",
+        b"# rack 9 9 9\n\nrack 2 2 40 # 4\n101 31# x\n#\n102 24 #103 18\n103 18\n# end",
+    ),
+    (
+        "Latin-1 and zeros in comments",
+        b"# \xfcber \0\xff\nrack 2 2 40\n101 31 # \xe9\n102 24\n103 18\n",
+    ),
+    (
+        "a comment with CRLF",
+        b"rack 2 2 40 # x\r\n101 31#\r\n102 24\r\n103 18\r\n",
+    ),
+    (
+        "blank lines",
+        b"\n \n\t\n\r\nrack 2 2 40\n\n101 31\n \r\n102 24\n103 18\n\n\n",
+    ),
+    (
+        "padded rows",
+        b"rack,2,2,40\n101,31,,\n102,24,\n103,18, , ,\n",
+    ),
+    (
+        "rows of separators",
+        b",,,\nrack,2,2,40\n,,,\n101,31,,\n ; ; \n102,24,,\n103,18,,\n,,,\n",
+    ),
+    (
+        "padding and comments",
+        b"rack;2;2;40;;# x\r\n101;31;;#\r\n102;24;;\r\n103;18\r\n;;# y\r\n",
+    ),
+    (
+        "leading zeros",
+        b"rack 02 2 0000000000000040\n0101 031\n102 24\n103 018\n",
+    ),
+];
+
+#[test]
+fn every_form_gives_the_same_plan_and_records() {
+    let rack = rack(2, 2, 40);
+    let text = reference_text(rack, &records(&FILMS)).expect("the list is right");
+    let input = plan_input(rack, &FILMS);
+    for (name, form) in FORMS {
+        let folder = Folder::with("list.txt", form);
+        assert_eq!(folder.run(&["plan", "list.txt"]).printed(), text, "{name}");
+        let listed = folder.run(&["records", "list.txt"]);
+        listed.printed();
+        assert_eq!(listed.bytes, input, "{name}");
+    }
+}
+
+#[test]
+fn a_list_and_records_come_from_standard_input_too() {
+    let rack = rack(2, 2, 40);
+    let text = reference_text(rack, &records(&FILMS)).expect("the list is right");
+    let folder = Folder::new();
+    let list = FORMS[0].1;
+    assert_eq!(folder.run_on(&["plan", "-"], list).printed(), text);
+    assert_eq!(folder.run_on(&["plan", "--", "-"], list).printed(), text);
+    assert_eq!(
+        folder.run_on(&["records", "-"], list).bytes,
+        plan_input(rack, &FILMS)
+    );
+    let input = plan_input(rack, &FILMS);
+    assert_eq!(
+        folder.run_on(&["plan", "--records", "-"], &input).printed(),
+        text
+    );
+}
+
+#[test]
+fn options_stand_before_or_after_the_file() {
+    let rack = rack(2, 2, 40);
+    let text = reference_text(rack, &records(&FILMS)).expect("the list is right");
+    let folder = Folder::with("--records", plan_input(rack, &FILMS));
+    folder.write("-odd", FORMS[0].1);
+    for arguments in [
+        &["plan", "--records", "--", "--records"][..],
+        &["plan", "--records", "./--records"],
+        &["plan", "./--records", "--records"],
+        &["plan", "--", "-odd"],
+    ] {
+        assert_eq!(folder.run(arguments).printed(), text, "{arguments:?}");
+    }
+}
+
+#[test]
+fn a_rack_without_films_has_an_empty_plan() {
+    let folder = Folder::with("list.txt", "rack 2 1 5\n");
+    let plan = folder.run(&["plan", "list.txt"]);
+    let text = "(rack 2 1 5)\n(disk 1)\n(disk 2)\n(left)\n(served 0 0)\n";
+    assert_eq!(plan.printed(), text);
+    let listed = folder.run(&["records", "list.txt"]);
+    assert_eq!(listed.bytes, [2, 0, 0, 0, 1, 0, 0, 0, 5, 0, 0, 0]);
+}
+
+#[test]
+fn the_samples_are_their_own_records() {
+    let samples = concat!(env!("CARGO_MANIFEST_DIR"), "/../samples");
+    let folder = Folder::new();
+    for name in ["ferry", "case_a"] {
+        let bytes = std::fs::read(format!("{samples}/{name}.bin")).expect("a sample");
+        let list = format!("{samples}/{name}.txt");
+        assert_eq!(folder.run(&["records", &list]).bytes, bytes, "{name}");
+    }
+}
+
+#[test]
+fn the_longest_list_is_planned() {
+    let rack = rack(64, 32, 65_535);
+    let films: Vec<(u32, u32)> = (0..MOST_RECORDS as u32)
+        .map(|at| (at + 1, 900 * at))
+        .collect();
+    let lines = films
+        .iter()
+        .map(|(film, demand)| format!("{film};{demand}\r\n"));
+    let list = String::from("rack;64;32;65535\r\n") + &lines.collect::<String>();
+    let folder = Folder::with("list.csv", list);
+    let text = reference_text(rack, &records(&films)).expect("the list is right");
+    assert_eq!(folder.run(&["plan", "list.csv"]).printed(), text);
+}

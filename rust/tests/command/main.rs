@@ -1,0 +1,26 @@
+//! Tests of the command `jugfjord`: the built command runs on files, and what it prints is
+//! compared with the plain Rust planner, writer and reader, or with lines written by hand.
+
+mod checking;
+mod folder;
+mod help;
+mod list_errors;
+mod list_forms;
+mod random_lists;
+mod refusals;
+mod showing;
+mod streams;
+mod terminal;
+
+/// Random numbers, lists and plans, as the tests of the library have them.
+#[path = "../jugfjord/dice.rs"]
+mod dice;
+#[allow(dead_code)]
+#[path = "../jugfjord/guarded.rs"]
+mod guarded;
+#[allow(dead_code)]
+#[path = "../jugfjord/lists.rs"]
+mod lists;
+#[allow(dead_code)]
+#[path = "../jugfjord/plans.rs"]
+mod plans;

@@ -1,0 +1,115 @@
+//! Refusals of planning in words, for list files and for records.
+
+use jugfjord::rack::MOST_RECORDS;
+
+use crate::folder::{plan_input, rack, Folder};
+
+/// List files that planning refuses, and what is said of them behind the file's name.
+const REFUSED: [(&str, &str); 14] = [
+    ("rack 0 2 40\n", "1: disks 0 is outside 1 to 64 (refused 1)"),
+    ("# x\nrack 65 2 40\n", "2: disks 65 is outside 1 to 64 (refused 1)"),
+    ("rack 2 33 40\n", "1: slots 33 is outside 1 to 32 (refused 1)"),
+    ("rack 2 2 65536\n", "1: streams 65536 is outside 1 to 65535 (refused 1)"),
+    (
+        "rack 65 0 4294967295\n0 0\n",
+        "1: disks 65 is outside 1 to 64, slots 0 is outside 1 to 32, streams 4294967295 is outside 1 to 65535 (refused 1)",
+    ),
+    ("rack 2 2 40\n0 5\n", "2: film number 0 is outside 1 to 65535 (refused 4, record 1)"),
+    (
+        "rack 2 2 40\n65535 5\n# x\n\n65536 5\n",
+        "5: film number 65536 is outside 1 to 65535 (refused 4, record 2)",
+    ),
+    ("rack 2 2 40\n1 1000001", "2: demand 1000001 is outside 0 to 1000000 (refused 5, record 1)"),
+    (
+        "rack 2 2 40\r\n1 1000000\r\n2 4294967295\r\n",
+        "3: demand 4294967295 is outside 0 to 1000000 (refused 5, record 2)",
+    ),
+    (
+        "rack 2 2 40\n110 3\n# x\n110 4\n",
+        "4: film 110 is in the list twice (refused 6, record 2), first in line 2",
+    ),
+    (
+        "rack 2 2 40\n5 3\n\n110 0\n7 1\n110 4\n5 3\n",
+        "6: film 110 is in the list twice (refused 6, record 4), first in line 4",
+    ),
+    // The first record at fault, and in it the first fault.
+    ("rack 2 2 40\n1 1\n1 1\n0 1\n", "3: film 1 is in the list twice (refused 6, record 2), first in line 2"),
+    ("rack 2 2 40\n1 1\n70000 1000001\n", "3: film number 70000 is outside 1 to 65535 (refused 4, record 2)"),
+    ("rack 2 2 40\n1 1\n1 1000001\n", "3: demand 1000001 is outside 0 to 1000000 (refused 5, record 2)"),
+];
+
+#[test]
+fn a_refused_list_is_said_in_words_with_its_line() {
+    for (list, words) in REFUSED {
+        let folder = Folder::with("list.txt", list);
+        let ran = folder.run(&["plan", "list.txt"]);
+        ran.failed(1, &format!("list.txt:{words}"));
+        folder.run(&["records", "list.txt"]).printed();
+    }
+}
+
+#[test]
+fn the_list_that_is_too_long_is_named_at_record_1025() {
+    let films = |count| {
+        (1..=count)
+            .map(|film| format!("{film} 0\n# x\n"))
+            .collect::<String>()
+    };
+    let count = MOST_RECORDS;
+    let folder = Folder::with("long.txt", String::from("\nrack 1 1 1\n") + &films(count));
+    folder.run(&["plan", "long.txt"]).printed();
+    folder.write(
+        "long.txt",
+        String::from("\nrack 1 1 1\n") + &films(count + 2),
+    );
+    let ran = folder.run(&["plan", "long.txt"]);
+    // Record 1 is in line 3, and each record has a line of comment behind it.
+    ran.failed(
+        1,
+        "long.txt:2051: the list has more than 1024 records (refused 3)",
+    );
+}
+
+#[test]
+fn records_have_no_lines() {
+    let small = rack(2, 2, 40);
+    let input = |demands: &[(u32, u32)]| plan_input(small, demands);
+    let odd = [input(&[(1, 1)]), vec![0; 5]].concat();
+    let films: Vec<(u32, u32)> = (1..=1_025).map(|film| (film, 1)).collect();
+    let refused = [
+        (
+            Vec::new(),
+            "0 bytes are too few for a rack's 12 (refused 2)",
+        ),
+        (
+            input(&[])[..11].to_vec(),
+            "11 bytes are too few for a rack's 12 (refused 2)",
+        ),
+        (odd, "list length 13 is no multiple of 8 (refused 2)"),
+        (
+            plan_input(rack(0, 2, 40), &[]),
+            "disks 0 is outside 1 to 64 (refused 1)",
+        ),
+        (
+            input(&films),
+            "the list has more than 1024 records (refused 3)",
+        ),
+        (
+            input(&[(1, 1), (0, 1)]),
+            "film number 0 is outside 1 to 65535 (refused 4, record 2)",
+        ),
+        (
+            input(&[(1, 1_000_001)]),
+            "demand 1000001 is outside 0 to 1000000 (refused 5, record 1)",
+        ),
+        (
+            input(&[(3, 1), (4, 1), (5, 1), (4, 1)]),
+            "film 4 is in the list twice (refused 6, record 4), first in record 2",
+        ),
+    ];
+    for (bytes, words) in refused {
+        let folder = Folder::with("ferry.bin", bytes);
+        let ran = folder.run(&["plan", "--records", "ferry.bin"]);
+        ran.failed(1, &format!("ferry.bin: {words}"));
+    }
+}
