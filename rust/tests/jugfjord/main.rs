@@ -11,6 +11,7 @@ mod lists;
 mod planning;
 mod plans;
 mod reading;
+mod refusals;
 mod subjects;
 mod tally;
 mod writing;

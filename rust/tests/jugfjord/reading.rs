@@ -5,12 +5,13 @@ use jugfjord::rack::{Rack, Slots, Streams};
 use jugfjord::reference::plan::Plan;
 use jugfjord::reference::reader::plan_of;
 use jugfjord::reference::writer::text_of;
+use jugfjord::tables::Tables;
 
 use crate::damage::{fill_up, DAMAGES, LENGTHS};
 use crate::dice::Dice;
 use crate::guarded::{GuardedTables, Need};
 use crate::plans::{good, WRONG, WRONG_SHAPE};
-use crate::subjects::{READERS, WRITERS};
+use crate::subjects::{JUDGES, READERS, WRITERS};
 use crate::tally::Tally;
 
 const TEXTS: usize = 200_000;
@@ -95,9 +96,11 @@ fn damaged_text(dice: &mut Dice, plan: &Plan, tally: &mut Tally) -> Vec<u8> {
     text
 }
 
-/// Runs all readers on the case, and all writers on what was read. A refusal changes nothing.
+/// Runs all readers and judges on the case, and all writers on what was read. A refusal changes
+/// nothing.
 pub fn check(case: &Case, tally: &mut Tally) {
     let (read, after) = compare(case);
+    judge(case, &read);
     tally.answer(read.number);
     tally_line(case, &read, tally);
     match read.number {
@@ -118,6 +121,18 @@ fn compare(case: &Case) -> (ReadPlan, GuardedTables) {
         assert!(tables == expected, "{name} on {:?}: {tables:?}", shown());
     }
     (answer, expected)
+}
+
+/// Asserts that judges answer what reading answers where every table is long enough.
+fn judge(case: &Case, read: &ReadPlan) {
+    let answer = match read.number {
+        7 => READERS[0].1(&case.text, Tables::for_any_plan().lend()),
+        _ => *read,
+    };
+    for (name, judge) in JUDGES {
+        let shown = String::from_utf8_lossy(&case.text);
+        assert_eq!(judge(&case.text), answer, "{name} on {shown:?}");
+    }
 }
 
 /// Asserts that the rest of the tables is untouched, and that each writer makes the text again

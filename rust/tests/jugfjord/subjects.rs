@@ -10,6 +10,7 @@ use jugfjord::wrap;
 pub type Planner = fn(Rack, &[u8], LentTables) -> Planned;
 pub type Writer = fn(Rack, TablesView, u32, &mut [u8]) -> Written;
 pub type Reader = fn(&[u8], LentTables) -> ReadPlan;
+pub type Judge = fn(&[u8]) -> ReadPlan;
 
 /// The first of each is the one that the others are compared with.
 pub const PLANNERS: &[(&str, Planner)] = &[
@@ -32,4 +33,10 @@ pub const READERS: &[(&str, Reader)] = &[
     ("fast reader", fast_reader::read),
     #[cfg(feature = "library")]
     ("library", wrap::read),
+];
+
+/// What judges a text without tables. It is compared with the first reader.
+pub const JUDGES: &[(&str, Judge)] = &[
+    #[cfg(feature = "library")]
+    ("library", wrap::judge),
 ];
