@@ -2,7 +2,7 @@
 
 use jugfjord::rack::MOST_RECORDS;
 
-use crate::folder::{plan_input, rack, Folder};
+use crate::folder::{plan_input, rack, reference_text, Folder};
 
 /// List files that planning refuses, and what is said of them behind the file's name.
 const REFUSED: [(&str, &str); 14] = [
@@ -111,5 +111,24 @@ fn records_have_no_lines() {
         let folder = Folder::with("ferry.bin", bytes);
         let ran = folder.run(&["plan", "--records", "ferry.bin"]);
         ran.failed(1, &format!("ferry.bin: {words}"));
+    }
+}
+
+#[test]
+fn records_of_every_length_are_planned_or_refused_2() {
+    let input = plan_input(rack(2, 2, 40), &[(1, 1), (2, 2), (3, 3)]);
+    for length in 0..=input.len() {
+        let folder = Folder::with("ferry.bin", &input[..length]);
+        let ran = folder.run(&["plan", "--records", "ferry.bin"]);
+        if length >= 12 && length % 8 == 4 {
+            let list = &input[12..length];
+            assert_eq!(
+                Ok(ran.printed().into()),
+                reference_text(rack(2, 2, 40), list)
+            );
+        } else {
+            assert!(ran.err.ends_with(" (refused 2)\n"), "{}", ran.err);
+            assert_eq!((ran.status.code(), ran.out.as_str()), (Some(1), ""));
+        }
     }
 }

@@ -33,13 +33,13 @@ impl Arguments {
 }
 
 /// Sorts the words after a command's name. `--` ends the options, and `-` is a file.
-pub fn parse(command: &Command, words: impl Iterator<Item = OsString>) -> Result<Asked, Failure> {
+pub fn parse(command: &Command, given: impl Iterator<Item = OsString>) -> Result<Asked, Failure> {
     let mut arguments = Arguments {
         options: Vec::new(),
         files: Vec::new(),
     };
     let mut ended = false;
-    for word in words {
+    for word in given {
         match word.as_bytes() {
             b"--" if !ended => ended = true,
             b"--help" if !ended => return Ok(Asked::Help),

@@ -2,8 +2,10 @@
 //!
 //! Rust's own start opens /dev/null in the place of a closed descriptor, so that input that is
 //! not there would look empty and output would be lost, and it ignores SIGPIPE. This start does
-//! neither. Exporting a name counts as unsafe code, since two functions of one name would clash;
-//! the crate has no other `main`.
+//! neither. The standard library still finds the arguments, on Linux with glibc.
+//!
+//! Exporting a name counts as unsafe code, since two functions of one name would clash; the
+//! crate has no other `main`.
 
 #![allow(unsafe_code)]
 

@@ -12,7 +12,7 @@ const RACK: &[u8] = b"rack";
 const RACK_LINE: &str = "rack DISKS SLOTS STREAMS";
 const FILM_LINE: &str = "FILM DEMAND";
 /// More fields than any line may have.
-const MOST_FIELDS: usize = 5;
+const TOO_MANY_FIELDS: usize = 5;
 
 /// Why a file is no list file: the line, what was expected and what was found.
 pub struct Wrong {
@@ -41,10 +41,10 @@ pub fn parse(bytes: &[u8]) -> Result<List, Wrong> {
     let text = bytes.strip_prefix(BYTE_ORDER_MARK).unwrap_or(bytes);
     let mut gathered = Gathered::default();
     let mut line = 0;
-    for content in text.split(|&byte| byte == b'\n') {
+    for whole in text.split(|&byte| byte == b'\n') {
         line += 1;
         gathered
-            .take(line, content_of(content))
+            .take(line, content_of(whole))
             .map_err(|words| Wrong { line, words })?;
     }
     gathered.list().map_err(|words| Wrong { line, words })
@@ -88,33 +88,34 @@ fn content_of(line: &[u8]) -> &[u8] {
     let line = line.strip_suffix(b"\r").unwrap_or(line);
     let comment = line.iter().position(|&byte| byte == b'#');
     let content = &line[..comment.unwrap_or(line.len())];
-    let is_last = |byte: &u8| !is_blank(byte) && !is_mark(byte);
+    let is_last = |byte: &u8| !is_blank(byte) && !is_separator(byte);
     let end = content.iter().rposition(is_last).map_or(0, |last| last + 1);
     let start = content[..end].iter().position(|byte| !is_blank(byte));
     &content[start.unwrap_or(end)..end]
 }
 
-/// The fields of a content, or the first few of too many. A field between two marks may be empty.
+/// The fields of a content, or the first few of too many. A field between two separators may be empty.
 fn fields_of(content: &[u8]) -> Vec<&[u8]> {
     if content.is_empty() {
         return Vec::new();
     }
-    let cells = content.split(is_mark);
-    cells.flat_map(words_of).take(MOST_FIELDS).collect()
+    let cells = content.split(is_separator);
+    cells.flat_map(cell_fields).take(TOO_MANY_FIELDS).collect()
 }
 
-/// The words of a cell, or an empty field where it has none.
-fn words_of(cell: &[u8]) -> impl Iterator<Item = &[u8]> {
-    let words = cell.split(is_blank).filter(|word| !word.is_empty());
+/// The fields of a cell between separators: at least one, which may be empty.
+fn cell_fields(cell: &[u8]) -> impl Iterator<Item = &[u8]> {
+    let fields = cell.split(is_blank).filter(|field| !field.is_empty());
     let none = cell.iter().all(is_blank);
-    words.chain(none.then_some(&cell[..0]))
+    fields.chain(none.then_some(&cell[..0]))
 }
 
 fn is_blank(byte: &u8) -> bool {
     matches!(byte, b' ' | b'\t')
 }
 
-fn is_mark(byte: &u8) -> bool {
+/// Whether the byte separates fields by itself, so that two of them have an empty field between.
+fn is_separator(byte: &u8) -> bool {
     matches!(byte, b',' | b';')
 }
 

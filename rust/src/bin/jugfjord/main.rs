@@ -37,9 +37,9 @@ fn run() -> i32 {
     }
 }
 
-/// All that these words of the command line print on standard output.
-fn output(mut words: impl Iterator<Item = OsString>) -> Result<Vec<u8>, Failure> {
-    let first = words
+/// All that the arguments of the command line print on standard output.
+fn output(mut given: impl Iterator<Item = OsString>) -> Result<Vec<u8>, Failure> {
+    let first = given
         .next()
         .ok_or_else(|| Failure::usage("expected a command", ""))?;
     match first.to_str() {
@@ -47,7 +47,7 @@ fn output(mut words: impl Iterator<Item = OsString>) -> Result<Vec<u8>, Failure>
         Some("--version") => Ok(commands::version().into_bytes()),
         _ => {
             let command = commands::named(&first)?;
-            match arguments::parse(command, words)? {
+            match arguments::parse(command, given)? {
                 Asked::Help => Ok(commands::help_of(command).into_bytes()),
                 Asked::Run(arguments) => (command.run)(&arguments),
             }

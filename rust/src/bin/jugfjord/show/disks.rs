@@ -19,7 +19,7 @@ pub fn rows(plan: &ReadPlan, tables: &TablesView) -> Vec<Row> {
         Row {
             columns: [disk.to_string(), slots, streams],
             detail: bar(used as usize, plan.streams as usize),
-            marked: false,
+            in_colour: false,
         }
     };
     copies(plan, tables).map(row).collect()

@@ -72,11 +72,11 @@ fn rows_of(number: u32, film: &Film, copy_lines: Vec<String>) -> impl Iterator<I
     let served: u32 = film.copies.iter().map(|copy| copy.1).sum();
     let first = [number, served, film.left].map(|number| number.to_string());
     let columns = iter::once(first).chain(iter::repeat_with(Default::default));
-    let marked = film.left > 0;
+    let in_colour = film.left > 0;
     let row = move |(columns, detail)| Row {
         columns,
         detail,
-        marked,
+        in_colour,
     };
     columns.zip(copy_lines).map(row)
 }

@@ -3,11 +3,11 @@
 const BOLD: &str = "1";
 const YELLOW: &str = "33";
 
-/// One row of a table: columns, and what stands behind them. A marked row is coloured.
+/// One row of a table: columns, and what stands behind them. Some rows are in colour.
 pub struct Row {
     pub columns: [String; 3],
     pub detail: String,
-    pub marked: bool,
+    pub in_colour: bool,
 }
 
 impl Row {
@@ -49,7 +49,7 @@ impl Page {
         let titles = Row {
             columns,
             detail,
-            marked: false,
+            in_colour: false,
         };
         let widths = [0, 1, 2].map(|at| {
             let all = rows.iter().chain([&titles]);
@@ -58,7 +58,7 @@ impl Page {
         self.part();
         self.line(&titles.aligned(widths), Some(BOLD));
         for row in rows {
-            self.line(&row.aligned(widths), row.marked.then_some(YELLOW));
+            self.line(&row.aligned(widths), row.in_colour.then_some(YELLOW));
         }
     }
 
