@@ -23,6 +23,6 @@ fn main() {
     demands.extend([(11, 4), (12, 4)]);
     match plan_text(rack, &demands) {
         Ok(text) => print!("{text}"),
-        Err(refusal) => println!("refused {} {}", refusal.number, refusal.second),
+        Err(refusal) => println!("{refusal}"),
     }
 }

@@ -1,4 +1,4 @@
-//! Safe calls of the C library. The only module with unsafe code.
+//! Safe calls of the C library. The only module of this crate with unsafe code.
 //!
 //! Each call hands over slices as pointer and count. The borrows last for the whole call,
 //! tables that are written are borrowed alone, and the library keeps no pointer.
