@@ -89,22 +89,23 @@ step() {
 # each other.
 levels() {
     awk -v wanted="$*" '
-        function level(name,    deps, count, i, high) {
-            if (!(name in needs)) return -1 # a library of the toolchain
-            if (name in found) return found[name]
+        function highest(list,    names, count, i, high) { # the highest level among these crates
             high = -1
-            count = split(needs[name], deps, " ")
-            for (i = 1; i <= count; i++) if (level(deps[i]) > high) high = found[deps[i]]
-            found[name] = ++high
-            lines[high] = lines[high] name (size[high]++ % 2 ? "\n" : " ")
-            if (high > top) top = high
+            count = split(list, names, " ")
+            for (i = 1; i <= count; i++) if (level(names[i]) > high) high = level(names[i])
             return high
+        }
+        function level(name,    own) { # one more than what the crate depends on; -1 for a library of the toolchain
+            if (!(name in needs)) return -1
+            if (name in found) return found[name]
+            own = highest(needs[name]) + 1
+            lines[own] = lines[own] name (size[own]++ % 2 ? "\n" : " ")
+            return found[name] = own
         }
         { sub(/#.*/, "") }
         split($0, half, ":") == 2 { needs[half[1]] = half[2] }
         END {
-            count = split(wanted, names, " ")
-            for (i = 1; i <= count; i++) level(names[i])
+            top = highest(wanted)
             for (i = 0; i <= top; i++) printf "%s%s", lines[i], (size[i] % 2 ? "\n" : "")
         }' crates.txt
 }
