@@ -20,10 +20,10 @@ pub struct Outcome {
     pub status: ExitStatus,
 }
 
-/// The full path of the built program. Without it the test fails with words on what to set.
+/// The full path of the built program. Without it a test fails with words on what to set.
 pub fn path() -> PathBuf {
-    let asked =
-        "Set it to the path of the built program `plan`: `rt check plan` writes target/bin/plan.";
+    let asked = "Set it to the path of the built program `plan`, \
+                 which `rt check plan` writes to target/bin/plan.";
     let value = env::var_os(VARIABLE).unwrap_or_else(|| panic!("{VARIABLE} is not set. {asked}"));
     match PathBuf::from(&value).canonicalize() {
         Ok(path) if path.is_file() => path,
@@ -55,13 +55,20 @@ pub fn start(mut command: Command) -> Child {
     command.spawn().expect("the program can be started")
 }
 
+/// What a call gives with this as standard input.
+pub fn run(mut command: Command, stdin: impl Into<Stdio>) -> Outcome {
+    command.stdin(stdin);
+    finish(start(command))
+}
+
 /// What a started program gives. The test fails where it does not end.
 pub fn finish(mut child: Child) -> Outcome {
     let (stdout, stderr) = (child.stdout.take(), child.stderr.take());
     let (sender, receiver) = mpsc::channel();
     thread::spawn(move || sender.send((all_of(stdout), all_of(stderr))));
     let Ok((stdout, stderr)) = receiver.recv_timeout(LIMIT) else {
-        child.kill().expect("the program can be ended");
+        let ended = child.kill().and_then(|_| child.wait());
+        ended.expect("the program can be ended");
         panic!("the program did not end within {LIMIT:?}");
     };
     Outcome {

@@ -1,7 +1,7 @@
 //! The ways in which an input comes to the program.
 
-use std::fs::{self, File};
-use std::io::{self, Write};
+use std::fs::{self, File, OpenOptions};
+use std::io::{self, Seek, Write};
 use std::path::Path;
 use std::process::{self, Stdio};
 use std::sync::atomic::{AtomicUsize, Ordering};
@@ -9,7 +9,7 @@ use std::thread;
 use std::time::Duration;
 
 use crate::dice::Dice;
-use crate::program::{command, finish, start, Outcome};
+use crate::program::{command, finish, run, start, Outcome};
 
 /// Runs the program on an input that comes in one way.
 pub type Way = fn(&[u8]) -> Outcome;
@@ -37,9 +37,7 @@ impl Piece {
 
 /// Standard input is a file.
 pub fn file(input: &[u8]) -> Outcome {
-    let mut command = command();
-    command.stdin(file_of(input));
-    finish(start(command))
+    run(command(), file_of(input))
 }
 
 /// Standard input is a pipe that is written in single bytes.
@@ -52,7 +50,8 @@ pub fn slow_bytes(input: &[u8]) -> Outcome {
     pipe(input, || Piece::of(1).then_wait(5))
 }
 
-/// Standard input is a pipe that is written in chunks of 1 to 70,000 bytes, some with a pause behind them.
+/// Standard input is a pipe that is written in chunks of 1 to 70,000 bytes, some with a pause
+/// behind them.
 pub fn chunks(input: &[u8]) -> Outcome {
     let mut dice = Dice::new(input.iter().copied().map(u64::from).sum());
     pipe(input, || {
@@ -62,17 +61,22 @@ pub fn chunks(input: &[u8]) -> Outcome {
     })
 }
 
-/// A file that holds these bytes, to be read from its start. It has no name any more.
+/// A file that holds these bytes, at its start, to be read and written. It has no name any more.
 pub fn file_of(bytes: &[u8]) -> File {
     static FILES: AtomicUsize = AtomicUsize::new(0);
     let number = FILES.fetch_add(1, Ordering::Relaxed);
-    let name = format!("plan-input-{}-{number}", process::id());
+    let name = format!("plan-{}-{number}", process::id());
     let path = Path::new(env!("CARGO_TARGET_TMPDIR")).join(name);
     let filled = || -> io::Result<File> {
-        let mut file = File::create_new(&path)?;
-        file.write_all(bytes)?;
-        let file = File::open(&path)?;
+        let mut options = OpenOptions::new();
+        let mut file = options
+            .read(true)
+            .write(true)
+            .create_new(true)
+            .open(&path)?;
         fs::remove_file(&path)?;
+        file.write_all(bytes)?;
+        file.rewind()?;
         Ok(file)
     };
     filled().expect("a file can be made in cargo's directory")
@@ -88,7 +92,9 @@ pub fn pipe(input: &[u8], piece: impl FnMut() -> Piece + Send) -> Outcome {
         let writer = scope.spawn(|| write_in_pieces(input_end, input, piece));
         let outcome = finish(child);
         let written = writer.join().expect("the writer ends");
-        written.expect("the program reads its input to the end");
+        if let Err(error) = written {
+            panic!("the program did not read {} bytes: {error}", input.len());
+        }
         outcome
     })
 }
