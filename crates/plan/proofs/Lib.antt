@@ -1,2 +1,3 @@
 pub mod OneReads
 pub mod WholeReads
+pub mod ReadsExamplesHold

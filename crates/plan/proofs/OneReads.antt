@@ -9,7 +9,7 @@ use types.Run.{OneOf, miss}
 use Rattle.libc.specs.Io.{Moved}
 use Rattle.plan_output.specs.Input.{kept, mostKept}
 use Rattle.plan_output.proofs.Kept.{kept-short, kept-more}
-use Rattle.plan.specs.Reads.{afterRead, OneRead, Filled, ToEnd, Counted}
+use Rattle.plan.specs.Reads.{afterRead, OneRead, SpaceRead, ToEnd, Counted}
 use Rattle.plan.specs.declared.reading.Reads.{Reads}
 use Rattle.plan.specs.declared.reading.Reads.the-variants.{More, Whole, Failed}
 use Rattle.plan.proofs.reading.Reads.{the-type}
@@ -66,7 +66,7 @@ module _ {n most : ℕ} {last : ℤ} where
   -- A space that was not full when the input ended, or failed.
   pub ended-short :
       {space : ℕ} (answer : Reads) → OneOf (1 ∷ 2 ∷ []) (tagOf the-type answer) → OneRead n most last answer → n < space
-      → Filled space last answer
+      → SpaceRead space last answer
   ended-short (More m) tag read short = absurd (miss (1 ∷ 2 ∷ []) 0 tt tag)
   ended-short (Whole m) tag read short = let seen = ended n m last (read .known) in (omega (arith, seen .0), seen .1)
   ended-short Failed tag read short = failed n most last (read .moved) (read .known)

@@ -5,7 +5,7 @@ use native.Mathlib.Omega.{arith}
 use lib.IntN.{ℤ, pos, negsuc}
 use Rattle.plan_output.specs.Input.{kept, mostKept}
 use Rattle.plan_output.proofs.Kept.{kept-most}
-use Rattle.plan.specs.Reads.{Filled, Counted, ReadOn, InputRead}
+use Rattle.plan.specs.Reads.{SpaceRead, Counted, ReadOn, InputRead}
 use Rattle.plan.specs.declared.reading.Reads.{Reads}
 use Rattle.plan.specs.declared.reading.Reads.the-variants.{More, Whole, Failed}
 use Rattle.plan.proofs.OneReads.{bytes, clash}
@@ -35,13 +35,13 @@ counted-read m last (Whole n) counted = counted-whole m n last counted
 counted-read m last Failed counted = counted-failed m last counted
 
 -- What a space without room for more tells of a whole input, or of a failed one, holds of what was read.
-filled-read : (before last : ℤ) (first answer : Reads) → InputRead before first → (answer ≡ first) × (last ≡ before) → InputRead last answer
-filled-read before last first answer filled stays =
+stays-read : (before last : ℤ) (first answer : Reads) → InputRead before first → (answer ≡ first) × (last ≡ before) → InputRead last answer
+stays-read before last first answer filled stays =
     subst (InputRead last) (sym (stays .0)) (subst (λ (z : ℤ). InputRead z first) (sym (stays .1)) filled)
 
--- Filled and then read on, an input is whole or failed.
+-- SpaceRead and then read on, an input is whole or failed.
 pub input-read :
-    (before last : ℤ) (first answer : Reads) → Filled mostKept before first → ReadOn first before last answer → InputRead last answer
+    (before last : ℤ) (first answer : Reads) → SpaceRead mostKept before first → ReadOn first before last answer → InputRead last answer
 input-read before last (More n) answer filled read = counted-read n last answer read
-input-read before last (Whole n) answer filled read = filled-read before last (Whole n) answer (omega (arith, filled .0), filled .1) read
-input-read before last Failed answer filled read = filled-read before last Failed answer filled read
+input-read before last (Whole n) answer filled read = stays-read before last (Whole n) answer (omega (arith, filled .0), filled .1) read
+input-read before last Failed answer filled read = stays-read before last Failed answer filled read

@@ -1,2 +1,3 @@
 pub mod Reads
-pub mod Answered
+pub mod ReadsExamples
+pub mod RunPromise

@@ -25,10 +25,10 @@ pub record OneRead (n most : ℕ) (last : ℤ) (answer : Reads) : Type 0 where
 
 -- A space was filled from the start of an input. With more to come the space is full; a whole input has left room in it, and its
 -- end was seen.
-abbrev pub Filled : ℕ → ℤ → Reads → Type 0
-Filled space last (More n) = n ≡ space
-Filled space last (Whole n) = (n < space) × (last ≡ pos 0)
-Filled space last Failed = last ≡ negsuc 0
+abbrev pub SpaceRead : ℕ → ℤ → Reads → Type 0
+SpaceRead space last (More n) = n ≡ space
+SpaceRead space last (Whole n) = (n < space) × (last ≡ pos 0)
+SpaceRead space last Failed = last ≡ negsuc 0
 
 -- The input was read to its end: `more` further bytes came behind those that n stands for.
 pub record ToEnd (n : ℕ) (answer : Reads) : Type 0 where

@@ -12,7 +12,7 @@ ghost use lib.ListN.{length, take};
 ghost use Rattle.plan_output.specs.Input.{mostKept};
 ghost use Rattle.plan_output.specs.Output.{outputOf};
 ghost use Rattle.plan_output.specs.OutputPromise.{mostOutput};
-ghost use Rattle.plan.specs.Answered.{Answered};
+ghost use Rattle.plan.specs.RunPromise.{RunPromise};
 
 // Says on standard error that the input could not be read to its end.
 fn say_unread() {
@@ -39,7 +39,7 @@ fn print(input: &[u8], text: &mut [u8])
 fn run(input: &mut [u8], chunk: &mut [u8], text: &mut [u8], last: &mut isize) -> Reads
     requires { ⌜ length (now input) ≡ mostKept ⌝ }
     requires { ⌜ mostOutput ≤ length (now text) ⌝ }
-    ensures { λ r. ⌜ Answered (now (input .exit)) (now (last .exit)) (now (text .entry)) (now (text .exit)) r ⌝ }
+    ensures { λ r. ⌜ RunPromise (now (input .exit)) (now (last .exit)) (now (text .entry)) (now (text .exit)) r ⌝ }
 {
     let reads = read_input(input, chunk, last);
     let Reads::Whole(n) = reads else {

@@ -8,7 +8,7 @@ ghost use mathlib.Core.Path.{_≡_};
 ghost use Prim.Native.Nat.{_≤_};
 ghost use lib.ListN.{length};
 ghost use Rattle.plan_output.specs.Input.{mostKept};
-ghost use Rattle.plan.specs.Reads.{afterBytes, afterRead, OneRead, Filled, Counted, ReadOn, InputRead};
+ghost use Rattle.plan.specs.Reads.{afterBytes, afterRead, OneRead, SpaceRead, Counted, ReadOn, InputRead};
 
 // What is known of an input while it is read: how many bytes stand for what was read so far, and whether that is the whole.
 pub(crate) enum Reads {
@@ -47,9 +47,9 @@ fn read_next(kept: usize, space: &mut [u8], last: &mut isize) -> Reads
 }
 
 // Fills the space from the start of the input, and reads only where there is room.
-fn fill(space: &mut [u8], last: &mut isize) -> Reads
+fn fill_space(space: &mut [u8], last: &mut isize) -> Reads
     requires { ⌜ length (now space) ≡ mostKept ⌝ }
-    ensures { λ r. ⌜ Filled (length (now (space .entry))) (now (last .exit)) r ⌝ }
+    ensures { λ r. ⌜ SpaceRead (length (now (space .entry))) (now (last .exit)) r ⌝ }
 {
     let mut kept = 0;
     while kept < space.len() {
@@ -84,7 +84,7 @@ fn count_on(first: usize, chunk: &mut [u8], last: &mut isize) -> Reads
 
 // The choice: what is whole, or failed, is left at that; else the input is counted on.
 fn read_on(first: Reads, chunk: &mut [u8], last: &mut isize) -> Reads
-    requires { ⌜ Filled mostKept (now last) first ⌝ }
+    requires { ⌜ SpaceRead mostKept (now last) first ⌝ }
     ensures { λ r. ⌜ ReadOn first (now (last .entry)) (now (last .exit)) r ⌝ }
 {
     let Reads::More(kept) = first else {
@@ -98,6 +98,6 @@ pub(crate) fn read_input(space: &mut [u8], chunk: &mut [u8], last: &mut isize) -
     requires { ⌜ length (now space) ≡ mostKept ⌝ }
     ensures { λ r. ⌜ InputRead (now (last .exit)) r ⌝ }
 {
-    let first = fill(space, last);
+    let first = fill_space(space, last);
     read_on(first, chunk, last)
 }

@@ -10,7 +10,7 @@ use denote.Enum.Declared.{tagOf}
 use types.Run.{OneOf, miss}
 use borrow.Author.Needs.{needs}
 use Rattle.plan.specs.Reads.{InputRead}
-use Rattle.plan.specs.Answered.{Answered}
+use Rattle.plan.specs.RunPromise.{RunPromise}
 use Rattle.plan.specs.declared.reading.Reads.{Reads}
 use Rattle.plan.specs.declared.reading.Reads.the-variants.{More, Whole, Failed}
 use Rattle.plan.proofs.reading.Reads.{the-type}
@@ -18,12 +18,12 @@ use Rattle.plan.proofs.run.Statement.{statement}
 use Rattle.plan.proofs.run.Tie as tie
 
 -- Nothing is worked out where the end of the input was not seen.
-unanswered :
+unread :
     (input text : List ℕ) (last : ℤ) (answer : Reads) → InputRead last answer → OneOf (0 ∷ 2 ∷ []) (tagOf the-type answer)
-    → Answered input last text text answer
-unanswered input text last (More n) read tag = read
-unanswered input text last (Whole n) read tag = absurd (miss (0 ∷ 2 ∷ []) 1 tt tag)
-unanswered input text last Failed read tag = (read, refl)
+    → RunPromise input last text text answer
+unread input text last (More n) read tag = read
+unread input text last (Whole n) read tag = absurd (miss (0 ∷ 2 ∷ []) 1 tt tag)
+unread input text last Failed read tag = (read, refl)
 
 -- the read, from where its answer is known
 abbrev read-of : tie.After-slice-known5 → tie.After-read-input
@@ -43,7 +43,7 @@ returns : tie.Need-returns
 returns c =
     let at-match = c .before in
     let at-read = read-of (at-match .before) in
-    unanswered (at-read .read-input .last .0) (at-read .before .before .before .before .before .before .before .args .text .now) _
+    unread (at-read .read-input .last .0) (at-read .before .before .before .before .before .before .before .args .text .now) _
     (at-read .read-input .result) (at-read .read-input .ensures) (at-match .match .keys2)
 
 slice-reshare-prefix-print : tie.Need-slice-reshare-prefix-print

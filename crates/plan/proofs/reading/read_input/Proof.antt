@@ -3,16 +3,16 @@ use mathlib.Core.Path.{subst}
 use Prim.Native.Nat.{ℕ}
 use borrow.Author.Needs.{needs}
 use Rattle.plan_output.specs.Input.{mostKept}
-use Rattle.plan.specs.Reads.{Filled}
+use Rattle.plan.specs.Reads.{SpaceRead}
 use Rattle.plan.proofs.WholeReads.{input-read}
 use Rattle.plan.proofs.reading.read_input.Statement.{statement}
 use Rattle.plan.proofs.reading.read_input.Tie as tie
 
 -- What was filled is a space of the most that is kept.
-filled : (c : tie.After-fill) → Filled mostKept (c .fill .last .1 .0) (c .fill .result)
+filled : (c : tie.After-fill-space) → SpaceRead mostKept (c .fill-space .last .1 .0) (c .fill-space .result)
 filled c =
     let at-start = c .before .before .before .before .before in
-    subst (λ (space : ℕ). Filled space (c .fill .last .1 .0) (c .fill .result)) (at-start .pre) (c .fill .ensures)
+    subst (λ (space : ℕ). SpaceRead space (c .fill-space .last .1 .0) (c .fill-space .result)) (at-start .pre) (c .fill-space .ensures)
 
 read-on-requires : tie.Need-read-on-requires
 read-on-requires c κs = filled (c .before .before .before .before)
@@ -21,7 +21,7 @@ returns : tie.Need-returns
 returns c =
     let at-read = c .before .before in
     let at-fill = at-read .before .before .before .before .before in
-    input-read (at-fill .fill .last .1 .0) (at-read .read-on .last .1 .1 .0) (at-fill .fill .result) (at-read .read-on .result)
+    input-read (at-fill .fill-space .last .1 .0) (at-read .read-on .last .1 .1 .0) (at-fill .fill-space .result) (at-read .read-on .result)
     (filled at-fill) (at-read .read-on .ensures)
 
 pub read-input-spec : {M : Type 1} → statement M

@@ -10,7 +10,7 @@ use Rattle.plan_output.specs.Input.{mostKept}
 use Rattle.plan.specs.declared.reading.Reads.{Reads}
 use Rattle.plan.specs.declared.reading.Reads.the-variants.{More, Whole, Failed}
 use Rattle.plan.proofs.reading.Reads.{the-type}
-use Rattle.plan.specs.Reads.{Filled, ReadOn}
+use Rattle.plan.specs.Reads.{SpaceRead, ReadOn}
 use Rattle.plan.proofs.reading.read_on.Statement.{statement}
 use Rattle.plan.proofs.reading.read_on.Tie as tie
 
@@ -26,7 +26,7 @@ returns c = let at-start = c .before .before in stays (at-start .args .first) (a
 count-on-requires : tie.Need-count-on-requires
 count-on-requires c κs =
     let at-first = c .before .before .before in
-    omega (arith, subst (Filled mostKept _) (at-first .first .given .1) (at-first .before .before .before .pre))
+    omega (arith, subst (SpaceRead mostKept _) (at-first .first .given .1) (at-first .before .before .before .pre))
 
 returns-2 : tie.Need-returns-2
 returns-2 c =

@@ -9,7 +9,7 @@ use Rattle.plan.specs.declared.reading.Reads.{Reads}
 use Rattle.plan.specs.declared.reading.Reads.the-variants.{More, Whole, Failed}
 
 -- The output is worked out for an input whose end was seen, and for no other.
-abbrev pub Answered : List ℕ → ℤ → List ℕ → List ℕ → Reads → Type 0
-Answered input last entry exit (More n) = ⊥
-Answered input last entry exit (Whole n) = let output = outputOf (take n input) in (last ≡ pos 0) × (take (length output) exit ≡ output)
-Answered input last entry exit Failed = (last ≡ negsuc 0) × (exit ≡ entry)
+abbrev pub RunPromise : List ℕ → ℤ → List ℕ → List ℕ → Reads → Type 0
+RunPromise input last entry exit (More n) = ⊥
+RunPromise input last entry exit (Whole n) = let output = outputOf (take n input) in (last ≡ pos 0) × (take (length output) exit ≡ output)
+RunPromise input last entry exit Failed = (last ≡ negsuc 0) × (exit ≡ entry)

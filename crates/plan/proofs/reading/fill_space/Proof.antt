@@ -1,4 +1,4 @@
--- `reading::fill` ends, since each turn leaves less room, and reads only where there is room.
+-- `reading::fill_space` ends, since each turn leaves less room, and reads only where there is room.
 use mathlib.Core.Path.{_≡_}
 use Prim.Native.Nat.{_-_, _≤_}
 use native.Mathlib.Omega.{arith}
@@ -6,8 +6,8 @@ use lib.ListN.{length}
 use borrow.Author.Needs.{needs}
 use Rattle.plan_output.specs.Input.{mostKept}
 use Rattle.plan.proofs.OneReads.{more-within, ended-short}
-use Rattle.plan.proofs.reading.fill.Statement.{statement}
-use Rattle.plan.proofs.reading.fill.Tie as tie
+use Rattle.plan.proofs.reading.fill_space.Statement.{statement}
+use Rattle.plan.proofs.reading.fill_space.Tie as tie
 
 abbrev Inv-loop : tie.InvT-loop
 Inv-loop space₀ last₀ kept₀ space last kept = (kept ≤ mostKept) × (length space ≡ mostKept)
@@ -36,8 +36,8 @@ loop-again c =
 returns-2 : tie.Need-returns-2 Inv-loop μ-loop
 returns-2 c = omega arith
 
-pub fill-spec : {M : Type 1} → statement M
-fill-spec =
+pub fill-space-spec : {M : Type 1} → statement M
+fill-space-spec =
     tie.close
     (tie.spec
     Inv-loop
