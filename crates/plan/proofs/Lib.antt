@@ -1,3 +1,6 @@
+pub mod Answers
 pub mod OneReads
 pub mod WholeReads
-pub mod ReadsExamplesHold
+pub mod RunPromises
+pub mod ReadingExamplesHold
+pub mod RunExamplesHold

@@ -1,101 +1,61 @@
--- What is known after one read, by what it answered: bytes that came, the end of the input, or a failure.
-use mathlib.Core.Path.{_≡_, refl, sym, ap, subst, _∙_}
-use mathlib.Core.List.{[], _∷_}
+-- What is known after one read, by whether more may come behind it.
+use mathlib.Core.Path.{_≡_, sym, ap, subst, _∙_}
+use mathlib.Core.Bool.{Bool, true, false}
 use Prim.Native.Nat.{ℕ, zero, suc, _+_, _≤_, _<_}
 use native.Mathlib.Omega.{arith}
+use lib.Dec.{T}
 use lib.IntN.{ℤ, pos, negsuc}
-use denote.Enum.Declared.{tagOf}
-use types.Run.{OneOf, miss}
 use Rattle.libc.specs.Io.{Moved}
 use Rattle.plan_output.specs.Input.{kept, mostKept}
 use Rattle.plan_output.proofs.Kept.{kept-short, kept-more}
-use Rattle.plan.specs.Reads.{afterRead, OneRead, SpaceRead, ToEnd, Counted}
-use Rattle.plan.specs.declared.reading.Reads.{Reads}
-use Rattle.plan.specs.declared.reading.Reads.the-variants.{More, Whole, Failed}
-use Rattle.plan.proofs.reading.Reads.{the-type}
+use Rattle.plan.specs.Answers.{goesOn, bytesOf}
+use Rattle.plan.specs.Reading.{OneRead, Counted}
 
--- The variant of what is known, as a number.
-abbrev pub variant : Reads → ℕ
-variant (More n) = 0
-variant (Whole n) = 1
-variant Failed = 2
+-- No test both holds and fails.
+pub torn {ℓ} : {A : Type ℓ} {test : Bool} → test ≡ true → test ≡ false → A
+torn holds fails = absurd (subst T (sym holds ∙ fails) tt)
 
--- The bytes that stand for what was read.
-abbrev pub bytes : Reads → ℕ
-bytes (More n) = n
-bytes (Whole n) = n
-bytes Failed = 0
+-- What came fits the space.
+bytes-fit : (most : ℕ) (last : ℤ) → Moved most last → bytesOf last ≤ most
+bytes-fit most (pos n) moved = moved
+bytes-fit most (negsuc e) moved = omega arith
 
--- Two variants are never the same.
-pub clash {ℓ} : {A : Type ℓ} (a b : Reads) → a ≡ b → variant a < variant b → A
-clash a b same less = absurd (let none : ⊥ = omega (arith, ap variant same) in none)
+-- Where more may come, something came, and where none may come, nothing.
+bytes-some : (last : ℤ) → goesOn last ≡ true → 1 ≤ bytesOf last
+bytes-some (pos zero) more = absurd (subst T (sym more) tt)
+bytes-some (pos (suc n)) more = omega arith
+bytes-some (negsuc e) more = absurd (subst T (sym more) tt)
 
--- With more to come, bytes came.
-record Came (n most more : ℕ) : Type 0 where
-  pub count : ℕ
-  pub some : 1 ≤ count
-  pub fit : count ≤ most
-  pub number : more ≡ kept (n + count)
+bytes-none : (last : ℤ) → goesOn last ≡ false → bytesOf last ≡ 0
+bytes-none (pos zero) over = omega arith
+bytes-none (pos (suc n)) over = absurd (subst T over tt)
+bytes-none (negsuc e) over = omega arith
 
-came : (n most more : ℕ) (last : ℤ) → Moved most last → More more ≡ afterRead n last → Came n most more
-came n most more (pos zero) moved known = clash (More more) (Whole n) known (omega arith)
-came n most more (pos (suc m)) moved known = record { count = suc m; some = omega arith; fit = moved; number = ap bytes known }
-came n most more (negsuc e) moved known = clash (More more) Failed known (omega arith)
+module _ {most before after : ℕ} {last : ℤ} (read : OneRead most before after last) where
+  -- In a space with room for all of it, what is kept grows by what came.
+  grows : before + most ≤ mostKept → after ≡ before + bytesOf last
+  grows room = read .counted ∙ kept-short (before + bytesOf last) (omega (arith, bytes-fit most last (read .moved)))
 
--- The end of the input was seen, and nothing came with it.
-ended : (n m : ℕ) (last : ℤ) → Whole m ≡ afterRead n last → (m ≡ n) × (last ≡ pos 0)
-ended n m (pos zero) known = (ap bytes known, refl)
-ended n m (pos (suc more)) known = clash (More (kept (n + suc more))) (Whole m) (sym known) (omega arith)
-ended n m (negsuc e) known = clash (Whole m) Failed known (omega arith)
+  pub within-room : before + most ≤ mostKept → after ≤ before + most
+  within-room room = omega (arith, grows room, bytes-fit most last (read .moved))
 
--- The read failed.
-failed : (n most : ℕ) (last : ℤ) → Moved most last → Failed ≡ afterRead n last → last ≡ negsuc 0
-failed n most (pos zero) moved known = clash (Whole n) Failed (sym known) (omega arith)
-failed n most (pos (suc more)) moved known = clash (More (kept (n + suc more))) Failed (sym known) (omega arith)
-failed n most (negsuc e) moved known = ap negsuc moved
+  pub grows-some : before + most ≤ mostKept → goesOn last ≡ true → before < after
+  grows-some room more = omega (arith, grows room, bytes-some last more)
 
-module _ {n most : ℕ} {last : ℤ} where
-  -- What came fits the room that there was.
-  pub more-within :
-      {more : ℕ} {answer : Reads} → OneRead n most last answer → answer ≡ More more → n + most ≤ mostKept → (n < more) × (more ≤ n + most)
-  more-within {more} read said room =
-      let some = came n most more last (read .moved) (sym said ∙ read .known) in
-      let whole = kept-short (n + some .count) (omega (arith, some .fit)) in
-      (omega (arith, some .number, some .some, whole), omega (arith, some .number, some .fit, whole))
+  pub grows-none : before + most ≤ mostKept → goesOn last ≡ false → after ≡ before
+  grows-none room over = omega (arith, grows room, bytes-none last over)
 
-  -- A space that was not full when the input ended, or failed.
-  pub ended-short :
-      {space : ℕ} (answer : Reads) → OneOf (1 ∷ 2 ∷ []) (tagOf the-type answer) → OneRead n most last answer → n < space
-      → SpaceRead space last answer
-  ended-short (More m) tag read short = absurd (miss (1 ∷ 2 ∷ []) 0 tt tag)
-  ended-short (Whole m) tag read short = let seen = ended n m last (read .known) in (omega (arith, seen .0), seen .1)
-  ended-short Failed tag read short = failed n most last (read .moved) (read .known)
+  -- A count goes on from what was counted before.
+  pub counts-on : {first : ℕ} → Counted first before → Counted first after
+  counts-on {first} so-far = record {
+    more = so-far .more + bytesOf last;
+    number = read .counted
+        ∙ ap (λ (n : ℕ). kept (n + bytesOf last)) (so-far .number)
+        ∙ kept-more (first + so-far .more) (bytesOf last)
+        ∙ ap kept (let e : first + so-far .more + bytesOf last ≡ first + (so-far .more + bytesOf last) = omega arith in e);
+  }
 
--- n stands for `first` and further bytes.
-pub record SoFar (first n : ℕ) : Type 0 where
-  pub more : ℕ
-  pub number : n ≡ kept (first + more)
-
-pub so-far-none : (first : ℕ) → first ≤ mostKept → SoFar first first
-so-far-none first few = record { more = 0; number = sym (kept-short first few) ∙ ap kept (let e : first ≡ first + 0 = omega arith in e) }
-
-module _ {first n most : ℕ} {last : ℤ} (so-far : SoFar first n) where
-  -- Bytes that came are counted.
-  pub so-far-more : {more : ℕ} {answer : Reads} → OneRead n most last answer → answer ≡ More more → SoFar first more
-  so-far-more {more} read said =
-      let some = came n most more last (read .moved) (sym said ∙ read .known) in
-      record {
-        more = so-far .more + some .count;
-        number = some .number
-            ∙ ap (λ (m : ℕ). kept (m + some .count)) (so-far .number)
-            ∙ kept-more (first + so-far .more) (some .count)
-            ∙ ap kept (let e : first + so-far .more + some .count ≡ first + (so-far .more + some .count) = omega arith in e);
-      }
-
-  -- What was counted at the end of the input is the whole.
-  pub counted-end : (answer : Reads) → OneOf (1 ∷ 2 ∷ []) (tagOf the-type answer) → OneRead n most last answer → Counted first last answer
-  counted-end (More m) tag read = absurd (miss (1 ∷ 2 ∷ []) 0 tt tag)
-  counted-end (Whole m) tag read =
-      let seen = ended n m last (read .known) in
-      subst (λ (z : ℤ). Counted first z (Whole m)) (sym (seen .1)) (record { more = so-far .more; whole = ap Whole (seen .0 ∙ so-far .number) })
-  counted-end Failed tag read = subst (λ (z : ℤ). Counted first z Failed) (sym (failed n most last (read .moved) (read .known))) refl
+-- A count begins with what is kept.
+pub counts-none : (first : ℕ) → first ≤ mostKept → Counted first first
+counts-none first few =
+    record { more = 0; number = sym (kept-short first few) ∙ ap kept (let e : first ≡ first + 0 = omega arith in e) }

@@ -1,3 +1,4 @@
-pub mod Reads
-pub mod ReadsExamples
+pub mod Answers
+pub mod AnswerExamples
+pub mod Reading
 pub mod RunPromise

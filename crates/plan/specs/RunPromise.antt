@@ -1,15 +1,19 @@
--- What the program makes of an input that was read.
+-- What the program makes of its input.
 use mathlib.Core.Path.{_≡_}
+use mathlib.Core.Bool.{true, false}
 use mathlib.Core.List.{List}
 use Prim.Native.Nat.{ℕ}
-use lib.IntN.{ℤ, pos, negsuc}
+use lib.IntN.{ℤ}
 use lib.ListN.{length, take}
 use Rattle.plan_output.specs.Output.{outputOf}
-use Rattle.plan.specs.declared.reading.Reads.{Reads}
-use Rattle.plan.specs.declared.reading.Reads.the-variants.{More, Whole, Failed}
+use Rattle.plan.specs.Answers.{isEnd}
+use Rattle.plan.specs.Reading.{Settled}
 
--- The output is worked out for an input whose end was seen, and for no other.
-abbrev pub RunPromise : List ℕ → ℤ → List ℕ → List ℕ → Reads → Type 0
-RunPromise input last entry exit (More n) = ⊥
-RunPromise input last entry exit (Whole n) = let output = outputOf (take n input) in (last ≡ pos 0) × (take (length output) exit ≡ output)
-RunPromise input last entry exit Failed = (last ≡ negsuc 0) × (exit ≡ entry)
+-- The input is in its space, with `kept` bytes for all that came; `entry` and `exit` are the space for the output.
+pub record RunPromise (input : List ℕ) (kept : ℕ) (last : ℤ) (turns : ℕ) (entry exit : List ℕ) : Type 0 where
+  -- the output of an input whose end was seen stands at the front
+  pub printed : isEnd last ≡ true → take (length (outputOf (take kept input))) exit ≡ outputOf (take kept input)
+  -- and no other input has one
+  pub silent : isEnd last ≡ false → exit ≡ entry
+  -- it was read until no more came
+  pub settled : Settled last turns

@@ -1,103 +1,130 @@
 // Standard input, read to its end however long it is. What is kept stands for the whole.
 //
-// What the last read answered is kept in a lent number `last`, so that contracts can name it: bytes that came, 0 at the end of
-// the input, -1 where it failed.
+// Three lent numbers say what reading came to, so that contracts can name it: `kept`, how many bytes stand for all that came;
+// `last`, what the last read answered (bytes that came, 0 at the end of the input, -1 where it failed); and `turns`, how many
+// chunks may still be read.
 use libc::STDIN_FILENO;
 use plan_output::keep;
 ghost use mathlib.Core.Path.{_≡_};
-ghost use Prim.Native.Nat.{_≤_};
-ghost use lib.ListN.{length};
+ghost use Prim.Native.Nat.{_-_, _≤_, _<_};
+ghost use lib.ListN.{length, take};
 ghost use Rattle.plan_output.specs.Input.{mostKept};
-ghost use Rattle.plan.specs.Reads.{afterBytes, afterRead, OneRead, SpaceRead, Counted, ReadOn, InputRead};
+ghost use Rattle.plan.specs.Answers.{goesOn, isEnd, bytesOf};
+ghost use Rattle.plan.specs.Reading.{OneRead, SpaceRead, Counted, Settled, ReadOn, InputRead};
 
-// What is known of an input while it is read: how many bytes stand for what was read so far, and whether that is the whole.
-pub(crate) enum Reads {
-    More(usize),
-    Whole(usize),
-    Failed,
+// Whether more may come behind a read that answered this.
+fn goes_on(answer: isize) -> bool
+    ensures { λ r. ⌜ r ≡ goesOn answer ⌝ }
+{
+    answer > 0
 }
 
-// What is known after a read that brought `more` bytes, none at the end of the input, with `kept` bytes for what came before.
-fn after_bytes(kept: usize, more: usize) -> Reads
-    ensures { λ r. ⌜ r ≡ afterBytes kept more ⌝ }
+// Whether a read that answered this saw the end of the input.
+pub(crate) fn is_end(answer: isize) -> bool
+    ensures { λ r. ⌜ r ≡ isEnd answer ⌝ }
 {
-    if more == 0 {
-        return Reads::Whole(kept);
+    answer == 0
+}
+
+// How many bytes a read brought that answered this: none at the end of the input, and none where it failed.
+fn bytes_of(answer: isize) -> usize
+    ensures { λ r. ⌜ r ≡ bytesOf answer ⌝ }
+{
+    if answer < 0 {
+        return 0;
     }
-    Reads::More(keep(kept, more))
+    answer as usize
 }
 
-// What is known after a read that answered `got`: a number of bytes, or -1 where it failed.
-fn after_read(kept: usize, got: isize) -> Reads
-    ensures { λ r. ⌜ r ≡ afterRead kept got ⌝ }
+// One read into the space.
+fn read_next(space: &mut [u8], kept: &mut usize, last: &mut isize)
+    requires { ⌜ 1 ≤ length (now space) ⌝ }
+    ensures { λ _. ⌜ OneRead (length (now (space .entry))) (now (kept .entry)) (now (kept .exit)) (now (last .exit)) ⌝ }
 {
-    if got < 0 {
-        return Reads::Failed;
-    }
-    after_bytes(kept, got as usize)
+    let answer = libc::read(STDIN_FILENO, space);
+    let before = *kept;
+    let more = bytes_of(answer);
+    *kept = keep(before, more);
+    *last = answer;
 }
 
-// One read into the space, behind what `kept` bytes stand for.
-fn read_next(kept: usize, space: &mut [u8], last: &mut isize) -> Reads
-    ensures { λ r. ⌜ OneRead kept (length (now (space .entry))) (now (last .exit)) r ⌝ }
+// One read into the space behind what is kept. Bytes before it stay as they are.
+fn read_behind(space: &mut [u8], kept: &mut usize, last: &mut isize)
+    requires { ⌜ now kept < length (now space) ⌝ }
+    ensures { λ _. ⌜ OneRead
+        (length (now (space .entry)) - now (kept .entry)) (now (kept .entry)) (now (kept .exit)) (now (last .exit)) ⌝ }
+    ensures { λ _. ⌜ take (now (kept .entry)) (now (space .exit)) ≡ take (now (kept .entry)) (now (space .entry)) ⌝ }
 {
-    let got = libc::read(STDIN_FILENO, space);
-    *last = got;
-    after_read(kept, got)
+    let at = *kept;
+    read_next(&mut space[at..], kept, last);
 }
 
 // Fills the space from the start of the input, and reads only where there is room.
-fn fill_space(space: &mut [u8], last: &mut isize) -> Reads
+fn fill_space(space: &mut [u8], kept: &mut usize, last: &mut isize)
     requires { ⌜ length (now space) ≡ mostKept ⌝ }
-    ensures { λ r. ⌜ SpaceRead (length (now (space .entry))) (now (last .exit)) r ⌝ }
+    requires { ⌜ now kept ≡ 0 ⌝ }
+    ensures { λ _. ⌜ SpaceRead (length (now (space .entry))) (now (kept .exit)) (now (last .exit)) ⌝ }
 {
-    let mut kept = 0;
-    while kept < space.len() {
-        let reads = read_next(kept, &mut space[kept..], last);
-        let Reads::More(more) = reads else {
-            return reads;
-        };
-        kept = more;
+    while *kept < space.len() {
+        read_behind(space, kept, last);
+        if !goes_on(*last) {
+            return;
+        }
     }
-    Reads::More(kept)
 }
 
-// Reads on to the end of the input and answers how many bytes stand for the whole, of which `first` were kept before. The turns
-// count down from a number that no input uses up.
-fn count_on(first: usize, chunk: &mut [u8], last: &mut isize) -> Reads
-    requires { ⌜ first ≤ mostKept ⌝ }
-    ensures { λ r. ⌜ Counted first (now (last .exit)) r ⌝ }
+// Reads one chunk, which is only counted, and takes a turn for it.
+fn read_chunk(chunk: &mut [u8], kept: &mut usize, last: &mut isize, turns: &mut u64)
+    requires { ⌜ 1 ≤ length (now chunk) ⌝ }
+    requires { ⌜ 1 ≤ now turns ⌝ }
+    ensures { λ _. ⌜ OneRead (length (now (chunk .entry))) (now (kept .entry)) (now (kept .exit)) (now (last .exit)) ⌝ }
+    ensures { λ _. ⌜ now (turns .exit) ≡ now (turns .entry) - 1 ⌝ }
 {
-    let mut kept = first;
-    let mut turns = u64::MAX;
-    while turns > 0 {
-        let reads = read_next(kept, chunk, last);
-        let Reads::More(more) = reads else {
-            return reads;
-        };
-        kept = more;
-        turns -= 1;
-    }
-    *last = -1;
-    Reads::Failed
+    read_next(chunk, kept, last);
+    *turns -= 1;
 }
 
-// The choice: what is whole, or failed, is left at that; else the input is counted on.
-fn read_on(first: Reads, chunk: &mut [u8], last: &mut isize) -> Reads
-    requires { ⌜ SpaceRead mostKept (now last) first ⌝ }
-    ensures { λ r. ⌜ ReadOn first (now (last .entry)) (now (last .exit)) r ⌝ }
+// Reads chunks to the end of the input, or until the turns are used up, which no input does.
+fn count_on(chunk: &mut [u8], kept: &mut usize, last: &mut isize, turns: &mut u64)
+    requires { ⌜ 1 ≤ length (now chunk) ⌝ }
+    requires { ⌜ now kept ≤ mostKept ⌝ }
+    ensures { λ _. ⌜ Counted (now (kept .entry)) (now (kept .exit)) ⌝ }
+    ensures { λ _. ⌜ Settled (now (last .exit)) (now (turns .exit)) ⌝ }
 {
-    let Reads::More(kept) = first else {
-        return first;
-    };
-    count_on(kept, chunk, last)
+    while *turns > 0 {
+        read_chunk(chunk, kept, last, turns);
+        let more = goes_on(*last);
+        if !more {
+            return;
+        }
+    }
+}
+
+// The choice: where the last read saw the end of the input, or failed, that is all; else the input is counted on.
+fn read_on(chunk: &mut [u8], kept: &mut usize, last: &mut isize, turns: &mut u64)
+    requires { ⌜ 1 ≤ length (now chunk) ⌝ }
+    requires { ⌜ now kept ≤ mostKept ⌝ }
+    ensures { λ _. ⌜ ReadOn
+        (now (kept .entry)) (now (kept .exit)) (now (last .entry)) (now (last .exit)) (now (turns .exit)) ⌝ }
+{
+    if goes_on(*last) {
+        count_on(chunk, kept, last, turns);
+    }
 }
 
 // Reads the whole input: its first bytes into the space, and then as many chunks as there are.
-pub(crate) fn read_input(space: &mut [u8], chunk: &mut [u8], last: &mut isize) -> Reads
+pub(crate) fn read_input(
+    space: &mut [u8],
+    chunk: &mut [u8],
+    kept: &mut usize,
+    last: &mut isize,
+    turns: &mut u64,
+)
     requires { ⌜ length (now space) ≡ mostKept ⌝ }
-    ensures { λ r. ⌜ InputRead (now (last .exit)) r ⌝ }
+    requires { ⌜ 1 ≤ length (now chunk) ⌝ }
+    requires { ⌜ now kept ≡ 0 ⌝ }
+    ensures { λ _. ⌜ InputRead (now (kept .exit)) (now (last .exit)) (now (turns .exit)) ⌝ }
 {
-    let first = fill_space(space, last);
-    read_on(first, chunk, last)
+    fill_space(space, kept, last);
+    read_on(chunk, kept, last, turns);
 }

@@ -1,38 +1,49 @@
--- `reading::count_on` ends, since its turns go down, and its count goes on from what is kept so far.
+-- `reading::count_on` ends, since its turns go down, and counts on from what is kept.
 use mathlib.Core.Path.{_≡_, refl, sym, _∙_}
-use lib.ListN.{length}
+use mathlib.Core.Bool.{false}
 use native.Mathlib.Omega.{arith}
+use lib.ListN.{length}
+use borrow.Author.Tests.{not-true}
 use borrow.Author.Needs.{needs}
-use Rattle.plan.proofs.OneReads.{SoFar, so-far-none, so-far-more, counted-end}
+use Rattle.plan.specs.Answers.{goesOn}
+use Rattle.plan.specs.Reading.{Counted}
+use Rattle.plan.proofs.OneReads.{torn, counts-on, counts-none}
 use Rattle.plan.proofs.reading.count_on.Statement.{statement}
 use Rattle.plan.proofs.reading.count_on.Tie as tie
 
 abbrev Inv-loop : tie.InvT-loop
-Inv-loop first chunk₀ last₀ kept₀ turns₀ chunk last kept turns = SoFar first kept × (length chunk ≡ length chunk₀)
+Inv-loop chunk₀ kept₀ last₀ turns₀ chunk kept last turns = Counted kept₀ kept × (length chunk ≡ length chunk₀)
 
 abbrev μ-loop : tie.MeasureT-loop
-μ-loop first chunk₀ last₀ kept₀ turns₀ chunk last kept turns = turns
+μ-loop chunk₀ kept₀ last₀ turns₀ chunk kept last turns = turns
 
 loop-holds : tie.Need-loop-holds Inv-loop μ-loop
-loop-holds c = (so-far-none _ (omega arith), refl)
+loop-holds c = (counts-none _ (omega (arith, c .before .pre)), refl)
 
--- the turn's start and its read, from where its answer is known
-abbrev turn-of : tie.After-read-next Inv-loop μ-loop → tie.At-loop Inv-loop μ-loop
-turn-of c = c .before .before .before .before
+-- the read of a turn, from where its answer is tested, and its start
+abbrev read-of : tie.After-goes-on Inv-loop μ-loop → tie.After-read-chunk Inv-loop μ-loop
+read-of c = c .before .before .before .before
+
+abbrev turn-of : tie.After-read-chunk Inv-loop μ-loop → tie.At-loop Inv-loop μ-loop
+turn-of c = c .before .before .before .before .before .before
+
+counted : (c : tie.After-read-chunk Inv-loop μ-loop) → Counted (turn-of c .before .before .args .kept .now) (c .read-chunk .last .1 .0)
+counted c = counts-on (c .read-chunk .ensures .0) (turn-of c .loop .inv .0)
+
+over : (c : tie.Then1 Inv-loop μ-loop) → goesOn (read-of (c .before) .read-chunk .last .1 .1 .0) ≡ false
+over c = search needs ∙ sym (c .before .goes-on .ensures) ∙ not-true (c .before .goes-on .result) (c .if1 .taken)
 
 returns : tie.Need-returns Inv-loop μ-loop
-returns c =
-    let at-read = c .before .before .before in
-    counted-end (turn-of at-read .loop .inv .0) _ (c .match .keys2) (at-read .read-next .ensures)
+returns c = (counted (read-of (c .before)), λ more. torn more (over c))
+
+loop-less : tie.Need-loop-less Inv-loop μ-loop
+loop-less c = omega (arith, read-of (c .before) .read-chunk .ensures .1)
 
 loop-again : tie.Need-loop-again Inv-loop μ-loop
-loop-again c =
-    let at-reads = c .before in
-    let at-read = at-reads .before .before .before .before in
-    (so-far-more (turn-of at-read .loop .inv .0) (at-read .read-next .ensures) (at-reads .reads .given .1), search needs)
+loop-again c = (counted (read-of (c .before)), search needs)
 
 returns-2 : tie.Need-returns-2 Inv-loop μ-loop
-returns-2 c = refl
+returns-2 c = (c .before .loop .inv .0, λ _. omega arith)
 
 pub count-on-spec : {M : Type 1} → statement M
 count-on-spec =
@@ -42,11 +53,10 @@ count-on-spec =
     μ-loop
     loop-holds
     (λ c κs. search needs)
-    (λ c. search needs)
+    (λ c κs. search needs)
     (λ c. search needs)
     returns
-    (λ c. search needs)
-    (λ c. search needs)
+    loop-less
     loop-again
     (λ c. search needs)
     returns-2)

@@ -1,40 +1,58 @@
 -- `reading::fill_space` ends, since each turn leaves less room, and reads only where there is room.
-use mathlib.Core.Path.{_≡_}
+use mathlib.Core.Path.{_≡_, sym, _∙_}
+use mathlib.Core.Bool.{true, false}
 use Prim.Native.Nat.{_-_, _≤_}
 use native.Mathlib.Omega.{arith}
+use lib.IntN.{ℤ}
 use lib.ListN.{length}
+use borrow.Author.Tests.{not-true, not-false}
 use borrow.Author.Needs.{needs}
 use Rattle.plan_output.specs.Input.{mostKept}
-use Rattle.plan.proofs.OneReads.{more-within, ended-short}
+use Rattle.plan.specs.Answers.{goesOn}
+use Rattle.plan.proofs.OneReads.{torn, within-room, grows-some, grows-none}
 use Rattle.plan.proofs.reading.fill_space.Statement.{statement}
 use Rattle.plan.proofs.reading.fill_space.Tie as tie
 
 abbrev Inv-loop : tie.InvT-loop
-Inv-loop space₀ last₀ kept₀ space last kept = (kept ≤ mostKept) × (length space ≡ mostKept)
+Inv-loop space₀ kept₀ last₀ space kept last = (kept ≤ mostKept) × (length space ≡ mostKept) × (1 ≤ kept → goesOn last ≡ true)
 
 abbrev μ-loop : tie.MeasureT-loop
-μ-loop space₀ last₀ kept₀ space last kept = mostKept - kept
+μ-loop space₀ kept₀ last₀ space kept last = mostKept - kept
 
--- the read of a turn, from where its answer is known
-abbrev read-of : tie.After-slice-known2 Inv-loop μ-loop → tie.After-read-next Inv-loop μ-loop
-read-of c = c .before .before
+loop-holds : tie.Need-loop-holds Inv-loop μ-loop
+loop-holds c =
+    let none = c .before .pre .1 in
+    (omega (arith, none), c .before .pre .0, λ some. absurd (let clash : ⊥ = omega (arith, none, some) in clash))
+
+-- the read of a turn and what it answered, from where its answer is tested
+abbrev read-of : tie.After-goes-on Inv-loop μ-loop → tie.After-read-behind Inv-loop μ-loop
+read-of c = c .before .before .before .before
+
+abbrev lastAt : tie.After-read-behind Inv-loop μ-loop → ℤ
+lastAt c = c .read-behind .last .1 .1 .0
+
+over : (c : tie.Then1 Inv-loop μ-loop) → goesOn (lastAt (read-of (c .before))) ≡ false
+over c = search needs ∙ sym (c .before .goes-on .ensures) ∙ not-true (c .before .goes-on .result) (c .if1 .taken)
+
+more : (c : tie.Else1 Inv-loop μ-loop) → goesOn (lastAt (read-of (c .before))) ≡ true
+more c = search needs ∙ sym (c .before .goes-on .ensures) ∙ not-false (c .before .goes-on .result) (c .if1 .left)
 
 returns : tie.Need-returns Inv-loop μ-loop
-returns c = ended-short _ (c .match .keys2) (read-of (c .before) .read-next .ensures) (omega arith)
+returns c =
+    let read = read-of (c .before) .read-behind .ensures .0 in
+    record { full = λ goes. torn goes (over c); short = λ _. omega (arith, grows-none read (omega arith) (over c)) }
 
 loop-less : tie.Need-loop-less Inv-loop μ-loop
-loop-less c =
-    let at-reads = c .before in
-    omega (arith, more-within (read-of (at-reads .before .before) .read-next .ensures) (at-reads .reads .given .1) (omega arith))
+loop-less c = omega (arith, grows-some (read-of (c .before) .read-behind .ensures .0) (omega arith) (more c))
 
 loop-again : tie.Need-loop-again Inv-loop μ-loop
 loop-again c =
-    let at-reads = c .before in
-    let came = more-within (read-of (at-reads .before .before) .read-next .ensures) (at-reads .reads .given .1) (omega arith) in
-    (omega (arith, came), search needs)
+    (omega (arith, within-room (read-of (c .before) .read-behind .ensures .0) (omega arith)), search needs, λ _. more c)
 
 returns-2 : tie.Need-returns-2 Inv-loop μ-loop
-returns-2 c = omega arith
+returns-2 c =
+    let inv = c .before .loop .inv in
+    record { full = λ _. omega arith; short = λ over. torn (inv .2 (omega arith)) over }
 
 pub fill-space-spec : {M : Type 1} → statement M
 fill-space-spec =
@@ -42,12 +60,9 @@ fill-space-spec =
     (tie.spec
     Inv-loop
     μ-loop
-    (λ c. search needs)
-    (λ c. search needs)
-    (λ c. search needs)
-    (λ c. search needs)
+    loop-holds
     (λ c κs. search needs)
-    (λ c. search needs)
+    (λ c κs. search needs)
     (λ c. search needs)
     returns
     loop-less

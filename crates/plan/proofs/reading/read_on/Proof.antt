@@ -1,40 +1,36 @@
--- `reading::read_on` counts on only where more is to come.
-use mathlib.Core.Path.{_≡_, refl, sym, ap, subst, _∙_}
-use native.Mathlib.Omega.{arith}
-use lib.IntN.{ℤ}
-use mathlib.Core.List.{[], _∷_}
-use denote.Enum.Declared.{tagOf}
-use types.Run.{OneOf, miss}
+-- `reading::read_on` counts on only where more may come.
+use mathlib.Core.Path.{_≡_, refl, sym, _∙_}
+use mathlib.Core.Bool.{true, false}
 use borrow.Author.Needs.{needs}
-use Rattle.plan_output.specs.Input.{mostKept}
-use Rattle.plan.specs.declared.reading.Reads.{Reads}
-use Rattle.plan.specs.declared.reading.Reads.the-variants.{More, Whole, Failed}
-use Rattle.plan.proofs.reading.Reads.{the-type}
-use Rattle.plan.specs.Reads.{SpaceRead, ReadOn}
+use Rattle.plan.specs.Answers.{goesOn}
+use Rattle.plan.proofs.OneReads.{torn}
 use Rattle.plan.proofs.reading.read_on.Statement.{statement}
 use Rattle.plan.proofs.reading.read_on.Tie as tie
 
--- What is whole, or failed, stays so.
-stays : (first : Reads) (last : ℤ) → OneOf (1 ∷ 2 ∷ []) (tagOf the-type first) → ReadOn first last last first
-stays (More n) last tag = absurd (miss (1 ∷ 2 ∷ []) 0 tt tag)
-stays (Whole n) last tag = (refl, refl)
-stays Failed last tag = (refl, refl)
+-- the start, from where the last answer is tested
+abbrev start-of : tie.After-goes-on → tie.Start
+start-of c = c .before .before .before
+
+more : (c : tie.Then1) → goesOn (start-of (c .before) .args .last .now) ≡ true
+more c = search needs ∙ sym (c .before .goes-on .ensures) ∙ c .if1 .taken
+
+over : (c : tie.Else1) → goesOn (start-of (c .before) .args .last .now) ≡ false
+over c = search needs ∙ sym (c .before .goes-on .ensures) ∙ c .if1 .left
 
 returns : tie.Need-returns
-returns c = let at-start = c .before .before in stays (at-start .args .first) (at-start .args .last .now) (c .match .keys2)
-
-count-on-requires : tie.Need-count-on-requires
-count-on-requires c κs =
-    let at-first = c .before .before .before in
-    omega (arith, subst (SpaceRead mostKept _) (at-first .first .given .1) (at-first .before .before .before .pre))
+returns c =
+    let at-count = c .before .before in
+    let at-test = at-count .before .before .before .before .before in
+    record {
+      all = λ over. torn (more at-test) over;
+      counted = λ _. at-count .count-on .ensures .0;
+      settled = at-count .count-on .ensures .1;
+    }
 
 returns-2 : tie.Need-returns-2
 returns-2 c =
-    let at-count = c .before .before in
-    let at-first = at-count .before .before .before .before in
-    let at-start = at-first .before .before .before in
-    subst (λ (first : Reads). ReadOn first (at-start .args .last .now) (at-count .count-on .last .1 .1 .0) (at-count .count-on .result))
-    (sym (at-first .first .given .1)) (at-count .count-on .ensures)
+    record { all = λ _. (refl, refl); counted = λ more. torn more (over c); settled = λ more. torn more (over c) }
 
 pub read-on-spec : {M : Type 1} → statement M
-read-on-spec = tie.close (tie.spec (λ c. search needs) returns count-on-requires (λ c. search needs) returns-2)
+read-on-spec =
+    tie.close (tie.spec (λ c κs. search needs) (λ c κs. search needs) (λ c. search needs) returns returns-2)
