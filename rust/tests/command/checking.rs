@@ -44,15 +44,15 @@ fn refused_texts_are_said_with_their_line() {
             TEXT[..TEXT.len() - 1].into(),
             5,
             "this line is not ended by a line feed",
-            ": (served 4 9)",
+            ": '(served 4 9)'",
         ),
         (
             TEXT[..12].into(),
             1,
             "this line is not ended by a line feed",
-            ": (rack 2 2 5)",
+            ": '(rack 2 2 5)'",
         ),
-        (TEXT[..20].into(), 2, WRONG_LINE, ": (disk 1"),
+        (TEXT[..20].into(), 2, WRONG_LINE, ": '(disk 1'"),
         (
             TEXT.to_string() + "\n",
             6,
@@ -63,25 +63,25 @@ fn refused_texts_are_said_with_their_line() {
             TEXT.to_string() + "(left)",
             6,
             "bytes after the last line",
-            ": (left)",
+            ": '(left)'",
         ),
         (
             TEXT.to_string() + TEXT,
             6,
             "bytes after the last line",
-            ": (rack 2 2 5)",
+            ": '(rack 2 2 5)'",
         ),
         (
             TEXT.replace("(7 4)", "(7 6)"),
             2,
             WRONG_LINE,
-            ": (disk 1 (7 6))",
+            ": '(disk 1 (7 6))'",
         ),
         (
             TEXT.replace("(disk 2)", "(disk 3)"),
             3,
             WRONG_LINE,
-            ": (disk 3)",
+            ": '(disk 3)'",
         ),
         (
             TEXT.replace("(disk 2)", ""),
@@ -93,21 +93,27 @@ fn refused_texts_are_said_with_their_line() {
             TEXT.replace("served 4", "served 5"),
             5,
             WRONG_LINE,
-            ": (served 5 9)",
+            ": '(served 5 9)'",
         ),
         (
             TEXT.replace('\n', "\r\n"),
             1,
             WRONG_LINE,
-            ": (rack 2 2 5)\\r",
+            ": '(rack 2 2 5)\\r'",
         ),
         (
             TEXT.replace("(disk 2)", "\u{1b}[1m\0"),
             3,
             WRONG_LINE,
-            ": \\u{1b}[1m\\0",
+            ": '\\x1b[1m\\x00'",
         ),
-        ("(refused 6 2)\n".into(), 1, WRONG_LINE, ": (refused 6 2)"),
+        (
+            TEXT.replace("(left (3 9))", "(left (3 9)) "),
+            4,
+            WRONG_LINE,
+            ": '(left (3 9)) '",
+        ),
+        ("(refused 6 2)\n".into(), 1, WRONG_LINE, ": '(refused 6 2)'"),
     ];
     for (text, line, words, content) in refused {
         let folder = Folder::with("plan.txt", text);
@@ -122,7 +128,7 @@ fn a_long_line_is_cut() {
     let line = "(left (1 1) (2 1) (3 1) (4 1) (5 1) (6 1) (7 1) (8 1) (9 1) (10 1) (11 1) (11 1))";
     let folder = Folder::with("plan.txt", TEXT.replace("(left (3 9))", line));
     let said = format!(
-        "plan.txt:4: {WRONG_LINE} (refused 9, line 4): {}...",
+        "plan.txt:4: {WRONG_LINE} (refused 9, line 4): '{}...'",
         &line[..60]
     );
     folder.run(&["check", "plan.txt"]).failed(1, &said);
@@ -143,7 +149,7 @@ fn a_text_of_more_than_65_536_bytes_is_refused_8() {
     assert!(ran.err.starts_with("plan.txt:1: "), "{}", ran.err);
     assert!(
         ran.err
-            .ends_with(&format!("(refused 9, line 1): {}...\n", "(".repeat(60))),
+            .ends_with(&format!("(refused 9, line 1): '{}...'\n", "(".repeat(60))),
         "{}",
         ran.err
     );

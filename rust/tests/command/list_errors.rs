@@ -98,10 +98,10 @@ const WRONG: [(&[u8], usize, &str, &str); 44] = [
     (b"rack 2 2 40\n110 6\r\r\n", 2, NUMBER, "'6\\r'"),
     (b"rack 2 2 40\r110 6\r", 1, RACK, "'rack 2 2 40\\r110 6'"),
     (
-        b"rack 2 2 40\n1 \x1b[31m\0\n",
+        b"rack 2 2 40\n1 \x1b[31m\x7f\0\n",
         2,
         NUMBER,
-        "'\\u{1b}[31m\\0'",
+        "'\\x1b[31m\\x7f\\x00'",
     ),
     (
         b"\xff\xfer\0a\0c\0k\0",

@@ -3,7 +3,7 @@
 use jugfjord::rack::{records, Rack, Slots, Streams};
 
 use crate::list::{Lines, List};
-use crate::words::cut;
+use crate::words::quoted;
 
 const BYTE_ORDER_MARK: &[u8] = b"\xef\xbb\xbf";
 const UTF_16_MARKS: [&[u8]; 2] = [b"\xff\xfe", b"\xfe\xff"];
@@ -57,7 +57,7 @@ impl Gathered {
         match (self.rack, fields.as_slice()) {
             (_, []) => {}
             (None, [RACK, ..]) => self.rack = Some((rack(content, &fields[1..])?, line)),
-            (None, _) => return Err(no_rack(&found(content))),
+            (None, _) => return Err(no_rack(&quoted(content))),
             (Some((_, first)), [RACK, ..]) => return Err(second_rack(content, first)),
             (Some(_), _) => {
                 let [film, demand] = numbers(FILM_LINE, content, &fields)?;
@@ -132,14 +132,14 @@ fn numbers<const COUNT: usize>(
     fields: &[&[u8]],
 ) -> Result<[u32; COUNT], String> {
     if fields.iter().any(|field| field.is_empty()) {
-        let found = found(content);
+        let found = quoted(content);
         return Err(format!(
             "expected '{line}', found an empty field in {found}"
         ));
     }
     let fields: &[&[u8]; COUNT] = fields
         .try_into()
-        .map_err(|_| format!("expected '{line}', found {}", found(content)))?;
+        .map_err(|_| format!("expected '{line}', found {}", quoted(content)))?;
     let mut numbers = [0; COUNT];
     for (number, field) in numbers.iter_mut().zip(fields) {
         *number = number_in(field)?;
@@ -153,7 +153,7 @@ fn number_in(field: &[u8]) -> Result<u32, String> {
         let most = u32::MAX;
         format!(
             "expected a whole number up to {most}, found {}",
-            found(field)
+            quoted(field)
         )
     };
     let digits = field.iter().all(u8::is_ascii_digit);
@@ -163,15 +163,11 @@ fn number_in(field: &[u8]) -> Result<u32, String> {
         .ok_or_else(expected)
 }
 
-fn found(bytes: &[u8]) -> String {
-    format!("'{}'", cut(bytes))
-}
-
 fn no_rack(found: &str) -> String {
     format!("expected '{RACK_LINE}' before the films, found {found}")
 }
 
 fn second_rack(content: &[u8], first: usize) -> String {
-    let found = found(content);
+    let found = quoted(content);
     format!("expected '{FILM_LINE}', found {found}, a second rack (the first is in line {first})")
 }

@@ -7,7 +7,7 @@ use jugfjord::wrap;
 use crate::arguments::Arguments;
 use crate::failure::Failure;
 use crate::standard::Source;
-use crate::words::cut;
+use crate::words::quoted;
 
 /// One line about the plan of an accepted text.
 pub fn check(arguments: &Arguments) -> Result<Vec<u8>, Failure> {
@@ -54,7 +54,7 @@ fn wrong_line(text: &[u8], refusal: Refusal) -> String {
     };
     match line {
         [] => format!("{said}: an empty line"),
-        _ => format!("{said}: {}", cut(line)),
+        _ => format!("{said}: {}", quoted(line)),
     }
 }
 

@@ -8,8 +8,13 @@ pub fn shown(bytes: &[u8]) -> String {
     pieces(bytes).collect()
 }
 
+/// The beginning of the bytes in quotes, on one line, with `...` where there are more.
+pub fn quoted(bytes: &[u8]) -> String {
+    format!("'{}'", cut(bytes))
+}
+
 /// The beginning of the bytes, on one line, with `...` where there are more.
-pub fn cut(bytes: &[u8]) -> String {
+fn cut(bytes: &[u8]) -> String {
     let mut all = String::new();
     for piece in pieces(bytes) {
         if all.len() + piece.len() > MOST_SHOWN {
@@ -24,15 +29,22 @@ pub fn cut(bytes: &[u8]) -> String {
 fn pieces(bytes: &[u8]) -> impl Iterator<Item = String> + '_ {
     bytes.utf8_chunks().flat_map(|chunk| {
         let characters = chunk.valid().chars().map(character);
-        let others = chunk.invalid().iter().map(|byte| format!("\\x{byte:02x}"));
+        let others = chunk.invalid().iter().map(|&byte| hexadecimal(byte));
         characters.chain(others)
     })
 }
 
 /// The character, or its escape where it cannot be seen.
 fn character(character: char) -> String {
+    let has_letter = matches!(character, '\t' | '\r' | '\n');
     match character {
         '\'' | '"' => character.into(),
+        _ if character.is_ascii_control() && !has_letter => hexadecimal(character as u8),
         _ => character.escape_debug().collect(),
     }
+}
+
+/// The byte as an escape of two hexadecimal digits.
+fn hexadecimal(byte: u8) -> String {
+    format!("\\x{byte:02x}")
 }
