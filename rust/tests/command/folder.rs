@@ -44,7 +44,8 @@ impl Folder {
     pub fn command(&self, arguments: &[&str]) -> Command {
         let mut command = Command::new(JUGFJORD);
         command.args(arguments).current_dir(&self.0);
-        command.env_remove("NO_COLOR").stdin(Stdio::null());
+        command.env_remove("NO_COLOR").env_remove("TERM");
+        command.stdin(Stdio::null());
         command
     }
 

@@ -37,7 +37,7 @@ disk  slots used  streams used
    1      2 of 3      40 of 40  [####################]
    2      1 of 3       9 of 40  [####................]
 
-served 49 of 80 viewers, 61.25 %; left 31 of 2 films
+served 49 of 80 viewers, 61.25 %; 31 viewers of 2 films are left
 ";
 
 #[test]
@@ -71,9 +71,26 @@ fn bold_and_colour_are_for_terminals_alone() {
         .iter()
         .fold(shown, |text, style| text.replace(style, ""));
     assert_eq!(plain, SMALL_PAGE);
-    let mut command = folder.command(&["show", "plan.txt"]);
-    command.env("NO_COLOR", "1");
-    assert_eq!(printed_on_terminal(command), SMALL_PAGE);
+}
+
+#[test]
+fn the_environment_may_forbid_bold_and_colour() {
+    let folder = Folder::with("plan.txt", text_of(&small_plan()));
+    let cases = [
+        ("NO_COLOR", "1", true),
+        ("NO_COLOR", "0", true),
+        ("NO_COLOR", "", false),
+        ("TERM", "dumb", true),
+        ("TERM", "xterm", false),
+        ("TERM", "", false),
+    ];
+    for (name, value, is_plain) in cases {
+        let mut command = folder.command(&["show", "plan.txt"]);
+        command.env(name, value);
+        let shown = printed_on_terminal(command);
+        assert_eq!(shown == SMALL_PAGE, is_plain, "{name}={value}");
+        assert_eq!(shown.contains('\x1b'), !is_plain, "{name}={value}");
+    }
 }
 
 /// A plan of one disk with these viewers of film 1 and this amount of film 2 left.
@@ -96,11 +113,11 @@ fn one_disk(viewers: u32, amount: u32) -> Plan {
 fn the_share_and_the_bar_are_never_rounded_up_to_all() {
     let empty = "[....................]";
     let cases = [
-        (0, 0, "nothing is wanted", empty),
+        (0, 0, "no film has viewers, and none is left", empty),
         (
             0,
             5,
-            "served 0 of 5 viewers, 0.00 %; left 5 of 1 film",
+            "served 0 of 5 viewers, 0.00 %; 5 viewers of 1 film are left",
             empty,
         ),
         (
@@ -112,25 +129,25 @@ fn the_share_and_the_bar_are_never_rounded_up_to_all() {
         (
             65_534,
             1,
-            "served 65534 of 65535 viewers, 99.99 %; left 1 of 1 film",
+            "served 65534 of 65535 viewers, 99.99 %; 1 viewer of 1 film is left",
             "[###################.]",
         ),
         (
             65_535,
             1,
-            "served 65535 of 65536 viewers, 99.99 %; left 1 of 1 film",
+            "served 65535 of 65536 viewers, 99.99 %; 1 viewer of 1 film is left",
             "[####################]",
         ),
         (
             1,
             2,
-            "served 1 of 3 viewers, 33.33 %; left 2 of 1 film",
+            "served 1 of 3 viewers, 33.33 %; 2 viewers of 1 film are left",
             "[#...................]",
         ),
         (
             2,
             1,
-            "served 2 of 3 viewers, 66.66 %; left 1 of 1 film",
+            "served 2 of 3 viewers, 66.66 %; 1 viewer of 1 film is left",
             "[#...................]",
         ),
     ];
@@ -138,6 +155,29 @@ fn the_share_and_the_bar_are_never_rounded_up_to_all() {
         let page = page(&one_disk(viewers, amount));
         assert_eq!(page.lines().last(), Some(sums));
         assert!(page.contains(bar), "{page}");
+    }
+}
+
+#[test]
+fn sums_that_are_too_long_for_a_line_take_two() {
+    // One line has 79 characters with 99 films left, and would have 80 with 100 films.
+    let cases = [
+        (
+            99,
+            "served 65535 of 19865535 viewers, 0.32 %; 19800000 viewers of 99 films are left",
+        ),
+        (
+            100,
+            "served 65535 of 20065535 viewers, 0.32 %;\n20000000 viewers of 100 films are left",
+        ),
+    ];
+    for (films, sums) in cases {
+        let left = (1..=films).map(|film| (film, 200_000)).collect();
+        let plan = Plan {
+            left,
+            ..one_disk(65_535, 0)
+        };
+        assert!(page(&plan).ends_with(&format!("\n\n{sums}\n")), "{films}");
     }
 }
 
@@ -150,7 +190,7 @@ fn the_rack_is_counted_in_words() {
         "disk  slots used  streams used",
         "   1      0 of 1    0 of 65535  [....................]",
         "",
-        "nothing is wanted",
+        "no film has viewers, and none is left",
     ];
     assert_eq!(page.lines().collect::<Vec<_>>(), lines);
 }

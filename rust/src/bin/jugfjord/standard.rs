@@ -77,7 +77,9 @@ pub fn complain(line: &str) {
 
 /// Whether standard output may be bold and coloured.
 pub fn may_be_coloured() -> bool {
-    io::stdout().is_terminal() && env::var_os("NO_COLOR").is_none()
+    let is_unwanted = env::var_os("NO_COLOR").is_some_and(|value| !value.is_empty());
+    let is_dumb = env::var_os("TERM").is_some_and(|kind| kind == "dumb");
+    io::stdout().is_terminal() && !is_unwanted && !is_dumb
 }
 
 /// A file on a copy of the descriptor, which fails where the descriptor is closed.

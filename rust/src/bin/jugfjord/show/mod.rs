@@ -13,6 +13,9 @@ use crate::failure::Failure;
 use crate::{plan_file, standard};
 use page::Page;
 
+/// The most characters of a line.
+const WIDTH: usize = 79;
+
 /// The plan of a text, for people.
 pub fn show(arguments: &Arguments) -> Result<Vec<u8>, Failure> {
     let source = arguments.file(0);
@@ -41,16 +44,33 @@ fn rack(plan: &ReadPlan) -> String {
 fn sums(plan: &ReadPlan) -> String {
     let wanted = plan.served + plan.unserved;
     if wanted == 0 {
-        return "nothing is wanted".into();
+        return "no film has viewers, and none is left".into();
     }
     let hundredths = plan.served * 10_000 / wanted;
     let share = format!("{}.{:02} %", hundredths / 100, hundredths % 100);
-    let served = format!("served {} of {}", plan.served, counted(wanted, "viewer"));
-    let left = match plan.left {
-        0 => String::new(),
-        films => format!("; left {} of {}", plan.unserved, counted(films, "film")),
-    };
-    format!("{served}, {share}{left}")
+    let wanted = counted(wanted, "viewer");
+    let served = format!("served {} of {wanted}, {share}", plan.served);
+    match plan.left {
+        0 => served,
+        films => joined(&served, &left(plan.unserved, films)),
+    }
+}
+
+/// What is left, in words.
+fn left(unserved: u64, films: u32) -> String {
+    let verb = if unserved == 1 { "is" } else { "are" };
+    let (viewers, films) = (counted(unserved, "viewer"), counted(films, "film"));
+    format!("{viewers} of {films} {verb} left")
+}
+
+/// Two parts of a sentence, on two lines where they are too long for one.
+fn joined(first: &str, second: &str) -> String {
+    let one = format!("{first}; {second}");
+    if one.len() > WIDTH {
+        format!("{first};\n{second}")
+    } else {
+        one
+    }
 }
 
 /// A number of things.

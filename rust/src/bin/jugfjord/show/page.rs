@@ -34,10 +34,12 @@ impl Page {
         Page { text, coloured }
     }
 
-    /// Adds a line in bold.
-    pub fn sentence(&mut self, line: &str) {
+    /// Adds a sentence in bold, of one line or more.
+    pub fn sentence(&mut self, sentence: &str) {
         self.part();
-        self.line(line, Some(BOLD));
+        sentence
+            .lines()
+            .for_each(|line| self.line(line, Some(BOLD)));
     }
 
     /// Adds a table, unless it is empty.
