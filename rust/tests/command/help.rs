@@ -22,6 +22,7 @@ fn help_names_every_use_and_the_exit_statuses() {
         );
     }
     is_help(&help);
+    assert_eq!(Folder::new().run(&["-h"]).printed(), help);
 }
 
 #[test]
@@ -34,10 +35,9 @@ fn each_command_has_its_help() {
             "{name}"
         );
         is_help(help.printed());
-        assert_eq!(
-            folder.run(&[name, "x", "y", "--help"]).printed(),
-            help.printed()
-        );
+        for words in [&[name, "x", "y", "--help"][..], &[name, "-h"]] {
+            assert_eq!(folder.run(words).printed(), help.printed());
+        }
     }
     assert!(folder
         .run(&["plan", "--help"])
@@ -60,14 +60,23 @@ fn the_version_is_that_of_the_package() {
 }
 
 #[test]
-fn the_man_page_names_the_version_and_every_command() {
+fn the_man_pages_have_the_same_head_and_foot() {
+    let head_and_foot = concat!("\"Jugfjord ", env!("CARGO_PKG_VERSION"), "\" \"Jugfjord\"");
+    let pages = [
+        ("PLAN", include_str!("../../../docs/man/plan.1")),
+        ("JUGFJORD", include_str!("../../../docs/man/jugfjord.1")),
+    ];
+    for (name, page) in pages {
+        let title = page.lines().find(|line| line.starts_with(".TH"));
+        let title = title.expect("a title");
+        assert!(title.starts_with(&format!(".TH {name} 1 ")), "{title}");
+        assert!(title.ends_with(&format!(" {head_and_foot}")), "{title}");
+    }
+}
+
+#[test]
+fn the_man_page_names_every_command() {
     let page = include_str!("../../../docs/man/jugfjord.1");
-    let title = page
-        .lines()
-        .find(|line| line.starts_with(".TH"))
-        .expect("a title");
-    let version = concat!("\"jugfjord ", env!("CARGO_PKG_VERSION"), "\"");
-    assert!(title.contains(version), "{title}");
     for name in COMMANDS {
         assert!(page.contains(&format!("\n.B jugfjord {name}\n")), "{name}");
     }
@@ -90,7 +99,11 @@ fn wrong_usage_is_one_line() {
         (&["plan"], "plan expects LIST, see jugfjord plan --help"),
         (
             &["plan", "--records"],
-            "plan expects LIST, see jugfjord plan --help",
+            "plan expects FILE, see jugfjord plan --help",
+        ),
+        (
+            &["plan", "--records", "list.txt", "x.txt"],
+            "plan expects no further file, found 'x.txt', see jugfjord plan --help",
         ),
         (&["show"], "show expects PLAN, see jugfjord show --help"),
         (

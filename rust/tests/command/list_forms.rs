@@ -114,13 +114,13 @@ fn options_stand_before_or_after_the_file() {
     let rack = rack(2, 2, 40);
     let text = reference_text(rack, &records(&FILMS)).expect("the list is right");
     let folder = Folder::with("--records", plan_input(rack, &FILMS));
-    folder.write("-odd", FORMS[0].1);
+    folder.write("-h", FORMS[0].1);
     folder.write("--", FORMS[0].1);
     for arguments in [
         &["plan", "--records", "--", "--records"][..],
         &["plan", "--records", "./--records"],
         &["plan", "./--records", "--records"],
-        &["plan", "--", "-odd"],
+        &["plan", "--", "-h"],
         &["plan", "--", "--"],
     ] {
         assert_eq!(folder.run(arguments).printed(), text, "{arguments:?}");

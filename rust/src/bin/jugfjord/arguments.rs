@@ -42,12 +42,12 @@ pub fn parse(command: &Command, given: impl Iterator<Item = OsString>) -> Result
     for word in given {
         match word.as_bytes() {
             b"--" if !ended => ended = true,
-            b"--help" if !ended => return Ok(Asked::Help),
+            b"--help" | b"-h" if !ended => return Ok(Asked::Help),
             [b'-', _, ..] if !ended => arguments.options.push(option(command, &word)?),
             _ => arguments.files.push(Source::new(word)),
         }
     }
-    count_files(command, &arguments.files)?;
+    count_files(command, &arguments)?;
     Ok(Asked::Run(arguments))
 }
 
@@ -62,12 +62,11 @@ fn option(command: &Command, word: &OsString) -> Result<&'static str, Failure> {
 }
 
 /// Tests that there are just the files that the command takes.
-fn count_files(command: &Command, files: &[Source]) -> Result<(), Failure> {
+fn count_files(command: &Command, arguments: &Arguments) -> Result<(), Failure> {
     let name = command.name;
-    let wrong = match (
-        command.files.get(files.len()),
-        files.get(command.files.len()),
-    ) {
+    let given = &arguments.files;
+    let taken = command.files(&arguments.options);
+    let wrong = match (taken.get(given.len()), given.get(taken.len())) {
         (Some(missing), _) => format!("{name} expects {missing}"),
         (_, Some(extra)) => format!("{name} expects no further file, found '{}'", extra.name()),
         (None, None) => return Ok(()),

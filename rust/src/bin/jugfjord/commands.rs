@@ -11,16 +11,27 @@ use crate::{plan_file, planning, show};
 /// One command: how it is used, and what does it.
 pub struct Command {
     pub name: &'static str,
-    /// Each use behind the name, and what it does.
+    /// Each use behind the name, its options and its files, and what it does.
     uses: &'static [(&'static str, &'static str)],
     /// What its help says besides.
     more: &'static str,
     /// The options it knows besides --help.
     pub options: &'static [&'static str],
-    /// The files it takes, as its uses name them.
-    pub files: &'static [&'static str],
     /// Answers what it prints on standard output.
     pub run: fn(&Arguments) -> Result<Vec<u8>, Failure>,
+}
+
+impl Command {
+    /// The files that it takes with these options, as the first use that has them names the files.
+    pub fn files(&self, options: &[&str]) -> Vec<&'static str> {
+        let mut uses = self.uses.iter().map(|(words, _)| words.split(' '));
+        let found = uses.find(|words| {
+            let is_in_use = |option: &&str| words.clone().any(|word| word == *option);
+            options.iter().all(is_in_use)
+        });
+        let words = found.into_iter().flatten();
+        words.filter(|word| !word.starts_with('-')).collect()
+    }
 }
 
 const COMMANDS: [Command; 4] = [
@@ -32,7 +43,6 @@ const COMMANDS: [Command; 4] = [
         ],
         more: LIST_FILE,
         options: &["--records"],
-        files: &["LIST"],
         run: planning::plan,
     },
     Command {
@@ -40,7 +50,6 @@ const COMMANDS: [Command; 4] = [
         uses: &[("LIST", "print a list file as records for plan(1)")],
         more: LIST_FILE,
         options: &[],
-        files: &["LIST"],
         run: planning::records,
     },
     Command {
@@ -48,17 +57,16 @@ const COMMANDS: [Command; 4] = [
         uses: &[("PLAN", "say whether a text is a plan text")],
         more: "",
         options: &[],
-        files: &["PLAN"],
         run: plan_file::check,
     },
     Command {
         name: "show",
         uses: &[("PLAN", "print a plan for people, by film and by disk")],
         more: "\
-Bold and colour are used on a terminal only, and not where NO_COLOR is set.
+On a terminal bold and colour are used, unless NO_COLOR is set and not empty or
+TERM is dumb.
 ",
         options: &[],
-        files: &["PLAN"],
         run: show::show,
     },
 ];
@@ -84,7 +92,7 @@ With 1 and 2 standard error has one line that says why.
 
 const FILES: &str = "\
 Instead of a file, - is standard input. Options may stand before or after the
-file, and -- ends them.
+file, and -- ends them. -h is --help.
 ";
 
 /// The command of this name.

@@ -43,7 +43,7 @@ fn output(mut given: impl Iterator<Item = OsString>) -> Result<Vec<u8>, Failure>
         .next()
         .ok_or_else(|| Failure::usage("expected a command", ""))?;
     match first.to_str() {
-        Some("--help") => Ok(commands::help().into_bytes()),
+        Some("--help" | "-h") => Ok(commands::help().into_bytes()),
         Some("--version") => Ok(commands::version().into_bytes()),
         _ => {
             let command = commands::named(&first)?;
