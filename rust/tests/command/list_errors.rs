@@ -8,11 +8,18 @@ use crate::folder::Folder;
 const RACK_FIRST: &str = "'rack DISKS SLOTS STREAMS' before the films";
 const RACK: &str = "'rack DISKS SLOTS STREAMS'";
 const FILM: &str = "'FILM DEMAND'";
-const NUMBER: &str = "a whole number up to 4294967295";
+const NUMBER: &str = "a whole number";
+const NO_LEADING_ZEROS: &str = "a whole number without leading zeros";
+const SMALLER: &str = "a whole number up to 4294967295";
 const PLAIN: &str = "UTF-8 or ASCII";
+const TEXT: &str = "text";
+const LINE_ENDS: &str = "LF or CRLF at the end of each line";
+/// What may be found.
+const ZERO_BYTE: &str = "a zero byte (records are planned by 'jugfjord plan --records')";
+const CR_ALONE: &str = "a CR alone (save the list with line ends of Unix or Windows)";
 
 /// Files that are no list files: the line, what is expected and what is found.
-const WRONG: [(&[u8], usize, &str, &str); 44] = [
+const WRONG: [(&[u8], usize, &str, &str); 86] = [
     // The rack line.
     (b"", 1, RACK_FIRST, "the end of the file"),
     (b"# x\n\n", 3, RACK_FIRST, "the end of the file"),
@@ -28,7 +35,8 @@ const WRONG: [(&[u8], usize, &str, &str); 44] = [
     (b"rack 2 2 40 1\n", 1, RACK, "'rack 2 2 40 1'"),
     (b"rack,2,,40\n", 1, RACK, "an empty field in 'rack,2,,40'"),
     (b"rack 2 x 40\n", 1, NUMBER, "'x'"),
-    (b"rack 2 2 4294967296\n", 1, NUMBER, "'4294967296'"),
+    (b"rack 2 2 4294967296\n", 1, SMALLER, "'4294967296'"),
+    (b"rack 2 02 40\n", 1, NO_LEADING_ZEROS, "'02'"),
     (
         b"rack 2 2 40\n1 1\n\nrack 2 2 40\n",
         4,
@@ -73,18 +81,122 @@ const WRONG: [(&[u8], usize, &str, &str); 44] = [
     (b"rack 2 2 40\n110 6.5\n", 2, NUMBER, "'6.5'"),
     (b"rack 2 2 40\n110 0x6\n", 2, NUMBER, "'0x6'"),
     (b"rack 2 2 40\n\"110\",\"6\"\n", 2, NUMBER, "'\"110\"'"),
-    (b"rack 2 2 40\n4294967296 6\n", 2, NUMBER, "'4294967296'"),
+    (b"rack 2 2 40\n4294967296 6\n", 2, SMALLER, "'4294967296'"),
     (
         b"rack 2 2 40\n1 99999999999999999999\n",
         2,
-        NUMBER,
+        SMALLER,
         "'99999999999999999999'",
     ),
     (
         b"rack 2 2 40\n1 1234567890123456789012345678901234567890123456789012345678901\n",
         2,
-        NUMBER,
+        SMALLER,
         "'123456789012345678901234567890123456789012345678901234567890...'",
+    ),
+    (b"rack 2 2 40\n1,024\n", 2, NO_LEADING_ZEROS, "'024'"),
+    (b"rack 2 2 40\n01 24\n", 2, NO_LEADING_ZEROS, "'01'"),
+    (b"rack 2 2 40\n1 00\n", 2, NO_LEADING_ZEROS, "'00'"),
+    (
+        b"rack 2 2 40\n1 04294967296\n",
+        2,
+        NO_LEADING_ZEROS,
+        "'04294967296'",
+    ),
+    (b"rack 2 2 40\n1 0x\n", 2, NUMBER, "'0x'"),
+    (b"rack 2 2 40\n1 x 3\n", 2, NUMBER, "'x'"),
+    // No comments: a `#` in a field.
+    (b"rack 2 2 40\n102,2#4\n", 2, NUMBER, "'2#4'"),
+    (b"rack 2 2 40\n101 31# x\n", 2, NUMBER, "'31#'"),
+    (b"rack 2 2 40\n101 31#\n", 2, NUMBER, "'31#'"),
+    (b"rack 2 2 40\n101# 31\n", 2, NUMBER, "'101#'"),
+    (b"rack 2 2 40\n101 3# # x\n", 2, NUMBER, "'3#'"),
+    (b"rack 2 2 40# x\n", 1, NUMBER, "'40#'"),
+    (b"rack#2 2 40\n", 1, RACK_FIRST, "'rack#2 2 40'"),
+    // No comments: what a spreadsheet writes for a value that it does not have.
+    (
+        b"rack 2 2 40\n#N/A,24\n",
+        2,
+        FILM,
+        "'#N/A', an error of a spreadsheet",
+    ),
+    (
+        b"rack 2 2 40\n101,#REF!\n",
+        2,
+        FILM,
+        "'#REF!', an error of a spreadsheet",
+    ),
+    (
+        b"rack 2 2 40\n101 31\n102;#VALUE!\r\n",
+        3,
+        FILM,
+        "'#VALUE!', an error of a spreadsheet",
+    ),
+    (
+        b"rack 2 2 40\n #NAME? 24\n",
+        2,
+        FILM,
+        "'#NAME?', an error of a spreadsheet",
+    ),
+    (
+        b"rack 2 2 40\n#DIV/0!\n",
+        2,
+        FILM,
+        "'#DIV/0!', an error of a spreadsheet",
+    ),
+    (
+        b"rack 2 2 40\n101,31,#NUM!\n",
+        2,
+        FILM,
+        "'#NUM!', an error of a spreadsheet",
+    ),
+    (
+        b"rack 2 2 40\n\t#NULL!\t24\n",
+        2,
+        FILM,
+        "'#NULL!', an error of a spreadsheet",
+    ),
+    (
+        b"rack 2 2 40\n#SPILL!;24\n",
+        2,
+        FILM,
+        "'#SPILL!', an error of a spreadsheet",
+    ),
+    (
+        b"rack 2 2 40\nx,#CALC!",
+        2,
+        FILM,
+        "'#CALC!', an error of a spreadsheet",
+    ),
+    (
+        b"rack 2 2 40\n####,24\n",
+        2,
+        FILM,
+        "'####', an error of a spreadsheet",
+    ),
+    (
+        b"rack 2 2 40\n##;24\n",
+        2,
+        FILM,
+        "'##', an error of a spreadsheet",
+    ),
+    (
+        b"rack 2 2 40\n101,###\t# x\n",
+        2,
+        FILM,
+        "'###', an error of a spreadsheet",
+    ),
+    (
+        b"rack,2,#N/A,40\n",
+        1,
+        RACK_FIRST,
+        "'#N/A', an error of a spreadsheet",
+    ),
+    (
+        b"\n####,\nrack 2 2 40\n",
+        2,
+        RACK_FIRST,
+        "'####', an error of a spreadsheet",
     ),
     // What cannot be seen.
     (b"rack 2 2 40\n110\xa06\n", 2, FILM, "'110\\xa06'"),
@@ -95,14 +207,29 @@ const WRONG: [(&[u8], usize, &str, &str); 44] = [
         NUMBER,
         "'\\u{feff}110'",
     ),
-    (b"rack 2 2 40\n110 6\r\r\n", 2, NUMBER, "'6\\r'"),
-    (b"rack 2 2 40\r110 6\r", 1, RACK, "'rack 2 2 40\\r110 6'"),
     (
-        b"rack 2 2 40\n1 \x1b[31m\x7f\0\n",
+        b"rack 2 2 40\n1 \x1b[31m\x7f\n",
         2,
         NUMBER,
-        "'\\x1b[31m\\x7f\\x00'",
+        "'\\x1b[31m\\x7f'",
     ),
+    (b"rack 2 2 40\n101\t31\t7\n", 2, FILM, "'101\\t31\\t7'"),
+    (b"rack 2 2 40\r110 6\r", 1, LINE_ENDS, CR_ALONE),
+    (b"rack 2 2 40\n110 6\r\r\n", 2, LINE_ENDS, CR_ALONE),
+    (b"rack 2 2 40\n110\r 6\n", 2, LINE_ENDS, CR_ALONE),
+    (b"rack 2 2 40\n110 6\r", 2, LINE_ENDS, CR_ALONE),
+    (b"rack 2 2 40\r\n\r", 2, LINE_ENDS, CR_ALONE),
+    (b"rack 2 2 40\n# x\r110 6\r\n", 2, LINE_ENDS, CR_ALONE),
+    (b"rack 2 2 40\n110 6 # x\r", 2, LINE_ENDS, CR_ALONE),
+    (b"rack 2 2 40\nx\n110 6\n\r", 4, LINE_ENDS, CR_ALONE),
+    (b"rack 2 2 40\n110 6\0\n", 2, TEXT, ZERO_BYTE),
+    (b"rack 2 2 40\n# \0\n110 6\n", 2, TEXT, ZERO_BYTE),
+    (b"rack 2 2 40\nx\n110 6\n\0", 4, TEXT, ZERO_BYTE),
+    (b"r\0a\0c\0k\0", 1, TEXT, ZERO_BYTE),
+    // The records of 10, 13 and 35 disks begin with an LF, a CR and a `#`.
+    (b"\n\0\0\0\x02\0\0\0\x28\0\0\0", 2, TEXT, ZERO_BYTE),
+    (b"\r\0\0\0\x02\0\0\0\x28\0\0\0", 1, TEXT, ZERO_BYTE),
+    (b"#\0\0\0\x02\0\0\0\x28\0\0\0", 1, TEXT, ZERO_BYTE),
     (
         b"\xff\xfer\0a\0c\0k\0",
         1,

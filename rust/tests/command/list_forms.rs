@@ -7,7 +7,7 @@ use crate::folder::{plan_input, rack, reference_text, Folder};
 /// The list that every form below has: rack 2 2 40 and these films.
 const FILMS: [(u32, u32); 3] = [(101, 31), (102, 24), (103, 18)];
 
-const FORMS: [(&str, &[u8]); 21] = [
+const FORMS: [(&str, &[u8]); 22] = [
     ("spaces", b"rack 2 2 40\n101 31\n102 24\n103 18\n"),
     ("tabs", b"rack\t2\t2\t40\n101\t31\n102\t24\n103\t18\n"),
     (
@@ -44,15 +44,23 @@ const FORMS: [(&str, &[u8]); 21] = [
     ("no end", b"rack 2 2 40\n101 31\n102 24\n103 18"),
     (
         "comments",
-        b"# rack 9 9 9\n\nrack 2 2 40 # 4\n101 31# x\n#\n102 24 #103 18\n103 18\n# end",
+        b"# rack 9 9 9\n\nrack 2 2 40 # 4\n101 31\t#x\n#\n102 24 #103 18\n103 18\n# end",
     ),
     (
-        "Latin-1 and zeros in comments",
-        b"# \xfcber \0\xff\nrack 2 2 40\n101 31 # \xe9\n102 24\n103 18\n",
+        "comments of many signs",
+        b"##\n## x\n#########\n#film,demand\n#\tx\nrack,2,2,40,#,\n101,31,#2#\n102;24;##\n103 18 ## ,\n##",
+    ),
+    (
+        "comments like error values",
+        b"# N/A,24\n#NA\nrack 2 2 40 #REF\n101 31 #NAME\n##N/A,24\n102 24 # ##,\n103 18 #DIV/0\n",
+    ),
+    (
+        "Latin-1 and control characters in comments",
+        b"# \xfcber \x01\x1b\xff\nrack 2 2 40\n101 31 # \xe9\n102 24\n103 18\n",
     ),
     (
         "a comment with CRLF",
-        b"rack 2 2 40 # x\r\n101 31#\r\n102 24\r\n103 18\r\n",
+        b"rack 2 2 40 # x\r\n101 31 #\r\n102 24\r\n103 18\r\n",
     ),
     (
         "blank lines",
@@ -69,10 +77,6 @@ const FORMS: [(&str, &[u8]); 21] = [
     (
         "padding and comments",
         b"rack;2;2;40;;# x\r\n101;31;;#\r\n102;24;;\r\n103;18\r\n;;# y\r\n",
-    ),
-    (
-        "leading zeros",
-        b"rack 02 2 0000000000000040\n0101 031\n102 24\n103 018\n",
     ),
 ];
 

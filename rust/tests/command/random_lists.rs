@@ -58,7 +58,7 @@ fn list_file(dice: &mut Dice, rack: Rack, list: &[u8]) -> String {
     let start = dice.pick(&["", "\u{feff}", "# list\n", "\r\n,,\n"]);
     lines.fold(start.to_string(), |file, fields| {
         let gap = dice.pick(&[" ", "\t", ",", ";", " , ", "   ", "\t;"]);
-        let end = dice.pick(&["\n", "\r\n", " # x\n", ",,\r\n", "\n\n", "#\r\n;;\n"]);
+        let end = dice.pick(&["\n", "\r\n", " # x\n", ",,\r\n", "\n\n", ";#\r\n;;\n"]);
         file + &fields.join(gap) + end
     })
 }

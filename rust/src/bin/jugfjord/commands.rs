@@ -77,7 +77,8 @@ A list file:
   rack 4 6 40
   101 31
   102,24
-Spaces, tabs, a comma or a semicolon stand between numbers; # begins a comment.
+Spaces, tabs, a comma or a semicolon stand between numbers. # begins a comment
+at the beginning of a line or behind one of these.
 A list in records is what `jugfjord records` prints and plan(1) reads.
 ";
 

@@ -3,16 +3,20 @@
 use jugfjord::rack::{records, Rack, Slots, Streams};
 
 use crate::list::{Lines, List};
+use crate::list_line::{error_value, fields_of, numbers, parts_of};
 use crate::words::quoted;
 
 const BYTE_ORDER_MARK: &[u8] = b"\xef\xbb\xbf";
 const UTF_16_MARKS: [&[u8]; 2] = [b"\xff\xfe", b"\xfe\xff"];
+const UTF_16: &str = "expected UTF-8 or ASCII, found UTF-16; save the list in UTF-8";
+const ZERO_BYTE: &str = "expected text, found a zero byte \
+    (records are planned by 'jugfjord plan --records')";
+const CR_ALONE: &str = "expected LF or CRLF at the end of each line, found a CR alone \
+    (save the list with line ends of Unix or Windows)";
 /// The word that a rack line begins with.
 const RACK: &[u8] = b"rack";
 const RACK_LINE: &str = "rack DISKS SLOTS STREAMS";
 const FILM_LINE: &str = "FILM DEMAND";
-/// More fields than any line may have.
-const TOO_MANY_FIELDS: usize = 5;
 
 /// Why a file is no list file: the line, what was expected and what was found.
 pub struct Wrong {
@@ -31,41 +35,76 @@ struct Gathered {
 
 /// The list in the bytes of a list file.
 pub fn parse(bytes: &[u8]) -> Result<List, Wrong> {
-    if UTF_16_MARKS.iter().any(|mark| bytes.starts_with(mark)) {
-        let words = "expected UTF-8 or ASCII, found UTF-16; save the list in UTF-8";
-        return Err(Wrong {
-            line: 1,
-            words: words.into(),
-        });
-    }
-    let text = bytes.strip_prefix(BYTE_ORDER_MARK).unwrap_or(bytes);
+    let text = text_in(bytes)?;
     let mut gathered = Gathered::default();
     let mut line = 0;
-    for whole in text.split(|&byte| byte == b'\n') {
+    for ended in text.split(|&byte| byte == b'\n') {
         line += 1;
         gathered
-            .take(line, content_of(whole))
+            .take(line, ended.strip_suffix(b"\r").unwrap_or(ended))
             .map_err(|words| Wrong { line, words })?;
     }
     gathered.list().map_err(|words| Wrong { line, words })
 }
 
+/// The bytes without their mark, if they are text and each CR in them is part of a line's end.
+fn text_in(bytes: &[u8]) -> Result<&[u8], Wrong> {
+    let text = bytes.strip_prefix(BYTE_ORDER_MARK).unwrap_or(bytes);
+    let is_utf_16 = UTF_16_MARKS.iter().any(|mark| bytes.starts_with(mark));
+    let faults = [
+        (is_utf_16.then_some(0), UTF_16),
+        (text.iter().position(|&byte| byte == 0), ZERO_BYTE),
+        (cr_alone(text), CR_ALONE),
+    ];
+    match faults.iter().find_map(|&(at, words)| Some((at?, words))) {
+        None => Ok(text),
+        Some((at, words)) => Err(Wrong {
+            line: line_of(text, at),
+            words: words.into(),
+        }),
+    }
+}
+
+/// The line, from 1, of the byte at this place.
+fn line_of(text: &[u8], at: usize) -> usize {
+    1 + text[..at].iter().filter(|&&byte| byte == b'\n').count()
+}
+
+/// Where the first CR without an LF just behind it stands.
+fn cr_alone(text: &[u8]) -> Option<usize> {
+    let is_alone = |&at: &usize| text[at] == b'\r' && text.get(at + 1) != Some(&b'\n');
+    (0..text.len()).find(is_alone)
+}
+
 impl Gathered {
-    /// Takes a line's content, or answers what is wrong with it.
-    fn take(&mut self, line: usize, content: &[u8]) -> Result<(), String> {
+    /// Takes the line of this number, or answers what is wrong with it.
+    fn take(&mut self, number: usize, line: &[u8]) -> Result<(), String> {
+        let (content, comment) = parts_of(line);
+        if let Some(value) = error_value(comment) {
+            return Err(self.spreadsheet_error(value));
+        }
         let fields = fields_of(content);
         match (self.rack, fields.as_slice()) {
             (_, []) => {}
-            (None, [RACK, ..]) => self.rack = Some((rack(content, &fields[1..])?, line)),
+            (None, [RACK, ..]) => self.rack = Some((rack(content, &fields[1..])?, number)),
             (None, _) => return Err(no_rack(&quoted(content))),
             (Some((_, first)), [RACK, ..]) => return Err(second_rack(content, first)),
             (Some(_), _) => {
                 let [film, demand] = numbers(FILM_LINE, content, &fields)?;
                 self.records.extend(records(&[(film, demand)]));
-                self.record_lines.push(line);
+                self.record_lines.push(number);
             }
         }
         Ok(())
+    }
+
+    /// What is said of a spreadsheet's error value in the place of the line that is due.
+    fn spreadsheet_error(&self, value: &[u8]) -> String {
+        let found = format!("{}, an error of a spreadsheet", quoted(value));
+        match self.rack {
+            None => no_rack(&found),
+            Some(_) => no_film(&found),
+        }
     }
 
     /// The list, if its rack line was met.
@@ -83,91 +122,23 @@ impl Gathered {
     }
 }
 
-/// A line without the CR of its end, its comment, blanks around it and separators behind it.
-fn content_of(line: &[u8]) -> &[u8] {
-    let line = line.strip_suffix(b"\r").unwrap_or(line);
-    let comment = line.iter().position(|&byte| byte == b'#');
-    let content = &line[..comment.unwrap_or(line.len())];
-    let is_last = |byte: &u8| !is_blank(byte) && !is_separator(byte);
-    let end = content.iter().rposition(is_last).map_or(0, |last| last + 1);
-    let start = content[..end].iter().position(|byte| !is_blank(byte));
-    &content[start.unwrap_or(end)..end]
-}
-
-/// The fields of a content, or the first few of too many. A field between two separators may be empty.
-fn fields_of(content: &[u8]) -> Vec<&[u8]> {
-    if content.is_empty() {
-        return Vec::new();
-    }
-    let cells = content.split(is_separator);
-    cells.flat_map(cell_fields).take(TOO_MANY_FIELDS).collect()
-}
-
-/// The fields of a cell between separators: at least one, which may be empty.
-fn cell_fields(cell: &[u8]) -> impl Iterator<Item = &[u8]> {
-    let fields = cell.split(is_blank).filter(|field| !field.is_empty());
-    let none = cell.iter().all(is_blank);
-    fields.chain(none.then_some(&cell[..0]))
-}
-
-fn is_blank(byte: &u8) -> bool {
-    matches!(byte, b' ' | b'\t')
-}
-
-/// Whether the byte separates fields by itself, so that two of them have an empty field between.
-fn is_separator(byte: &u8) -> bool {
-    matches!(byte, b',' | b';')
-}
-
 /// The rack in the fields after its word.
 fn rack(content: &[u8], fields: &[&[u8]]) -> Result<Rack, String> {
     let [disks, slots, streams] = numbers(RACK_LINE, content, fields)?;
     Ok(Rack::new(disks, Slots(slots), Streams(streams)))
 }
 
-/// The numbers in the fields, just so many.
-fn numbers<const COUNT: usize>(
-    line: &str,
-    content: &[u8],
-    fields: &[&[u8]],
-) -> Result<[u32; COUNT], String> {
-    if fields.iter().any(|field| field.is_empty()) {
-        let found = quoted(content);
-        return Err(format!(
-            "expected '{line}', found an empty field in {found}"
-        ));
-    }
-    let fields: &[&[u8]; COUNT] = fields
-        .try_into()
-        .map_err(|_| format!("expected '{line}', found {}", quoted(content)))?;
-    let mut numbers = [0; COUNT];
-    for (number, field) in numbers.iter_mut().zip(fields) {
-        *number = number_in(field)?;
-    }
-    Ok(numbers)
-}
-
-/// The number in decimal digits.
-fn number_in(field: &[u8]) -> Result<u32, String> {
-    let expected = || {
-        let most = u32::MAX;
-        format!(
-            "expected a whole number up to {most}, found {}",
-            quoted(field)
-        )
-    };
-    let digits = field.iter().all(u8::is_ascii_digit);
-    let number = str::from_utf8(field).ok().filter(|_| digits);
-    number
-        .and_then(|text| text.parse().ok())
-        .ok_or_else(expected)
-}
-
 fn no_rack(found: &str) -> String {
     format!("expected '{RACK_LINE}' before the films, found {found}")
 }
 
+fn no_film(found: &str) -> String {
+    format!("expected '{FILM_LINE}', found {found}")
+}
+
 fn second_rack(content: &[u8], first: usize) -> String {
     let found = quoted(content);
-    format!("expected '{FILM_LINE}', found {found}, a second rack (the first is in line {first})")
+    no_film(&format!(
+        "{found}, a second rack (the first is in line {first})"
+    ))
 }

@@ -13,6 +13,7 @@ mod entry;
 mod failure;
 mod list;
 mod list_file;
+mod list_line;
 mod plan_file;
 mod planning;
 mod show;
