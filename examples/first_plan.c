@@ -1,4 +1,4 @@
-/* Plans case A of the scope document, prints its text, judges the text and reads it back. A program to copy, in C99 or C++:
+/* Plans a rack of 3 disks and 12 films, prints the text, judges it and reads it back. A program to copy, in C99 or C++:
  *   cc first_plan.c $(pkg-config --cflags --libs jugfjord) && ./a.out */
 #include <inttypes.h>
 #include <jugfjord.h>
@@ -7,11 +7,10 @@
 
 enum { DISKS = 3, SLOTS = 4, STREAMS = 6, FILMS = 12 };
 
-struct tables {
+static struct tables {
     uint64_t copies[JUGFJORD_MOST_COPIES], left[JUGFJORD_MOST_LEFT];
     uint32_t counts[JUGFJORD_MOST_DISKS];
-};
-static struct tables made, found; /* the plan that was made, and the one that its text has */
+} made, found; /* the plan that was made, and the one that its text has */
 static uint8_t list[8 * FILMS], text[JUGFJORD_MOST_TEXT];
 
 /* A refusal in words. */
@@ -33,15 +32,16 @@ static const char *words(uint32_t number)
     }
 }
 
-/* Whether a call was refused; says so on standard error, with the record or the line. */
+/* Whether a call was refused; says so on standard error, with the record or the line where there is one. */
 static int refused(const char *call, uint32_t number, uint32_t second)
 {
-    if (number != 0)
-        fprintf(stderr, "%s: %s (refused %" PRIu32 " %" PRIu32 ")\n", call, words(number), number, second);
+    if (number != 0) fprintf(stderr, "%s: %s (refused %" PRIu32, call, words(number), number);
+    if (second != 0) fprintf(stderr, " %" PRIu32, second);
+    if (number != 0) fprintf(stderr, ")\n");
     return number != 0;
 }
 
-/* Byte i of case A's list: film and demand of a record, least significant byte first, as they stand in an entry. */
+/* Byte i of the list: film and demand of a record, least significant byte first, as they stand in an entry. */
 static uint8_t list_byte(uint32_t i)
 {
     uint32_t film = i / 8 + 1;
