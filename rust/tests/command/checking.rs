@@ -35,91 +35,78 @@ fn plans_are_accepted() {
     );
 }
 
+/// How much of the text is left, the line that is refused then, and what is said of it.
+const CUT: [(usize, usize, &str, &str); 5] = [
+    (0, 1, "the text ends before this line", ""),
+    (13, 2, "the text ends before this line", ""),
+    (
+        12,
+        1,
+        "this line is not ended by a line feed",
+        ": '(rack 2 2 5)'",
+    ),
+    (
+        TEXT.len() - 1,
+        5,
+        "this line is not ended by a line feed",
+        ": '(served 4 9)'",
+    ),
+    (20, 2, WRONG_LINE, ": '(disk 1'"),
+];
+
+/// What stands behind the text, and what is said of it.
+const BEHIND: [(&str, &str); 4] = [
+    ("\n", "an empty line"),
+    (" ", "' '"),
+    ("(left)", "'(left)'"),
+    (TEXT, "'(rack 2 2 5)'"),
+];
+
+/// A part of the text, what stands in its place, the line that is refused then, and its content.
+const REPLACED: [(&str, &str, usize, &str); 8] = [
+    ("(7 4)", "(7 6)", 2, "'(disk 1 (7 6))'"),
+    ("(disk 2)", "(disk 3)", 3, "'(disk 3)'"),
+    ("(disk 2)", "", 3, "an empty line"),
+    ("served 4", "served 5", 5, "'(served 5 9)'"),
+    ("\n", "\r\n", 1, "'(rack 2 2 5)\\r'"),
+    ("(disk 2)", "\u{1b}[1m\0", 3, "'\\x1b[1m\\x00'"),
+    ("(left (3 9))", "(left (3 9)) ", 4, "'(left (3 9)) '"),
+    (TEXT, "(refused 6 2)\n", 1, "'(refused 6 2)'"),
+];
+
+/// Asserts that `check` and `show` refuse the text at this line with these words.
+fn expect_refused(text: &str, line: usize, words: &str, content: &str) {
+    let folder = Folder::with("plan.txt", text);
+    let said = format!("plan.txt:{line}: {words} (refused 9, line {line}){content}");
+    folder.run(&["check", "plan.txt"]).failed(1, &said);
+    folder.run(&["show", "plan.txt"]).failed(1, &said);
+}
+
 #[test]
-fn refused_texts_are_said_with_their_line() {
-    let refused = [
-        (String::new(), 1, "the text ends before this line", ""),
-        (TEXT[..13].into(), 2, "the text ends before this line", ""),
-        (
-            TEXT[..TEXT.len() - 1].into(),
-            5,
-            "this line is not ended by a line feed",
-            ": '(served 4 9)'",
-        ),
-        (
-            TEXT[..12].into(),
-            1,
-            "this line is not ended by a line feed",
-            ": '(rack 2 2 5)'",
-        ),
-        (TEXT[..20].into(), 2, WRONG_LINE, ": '(disk 1'"),
-        (
-            TEXT.to_string() + "\n",
+fn a_text_that_was_cut_is_refused() {
+    for (length, line, words, content) in CUT {
+        expect_refused(&TEXT[..length], line, words, content);
+    }
+}
+
+#[test]
+fn a_text_with_bytes_behind_is_refused() {
+    for (behind, content) in BEHIND {
+        let words = "bytes after the last line";
+        expect_refused(
+            &(TEXT.to_string() + behind),
             6,
-            "bytes after the last line",
-            ": an empty line",
-        ),
-        (
-            TEXT.to_string() + "(left)",
-            6,
-            "bytes after the last line",
-            ": '(left)'",
-        ),
-        (
-            TEXT.to_string() + TEXT,
-            6,
-            "bytes after the last line",
-            ": '(rack 2 2 5)'",
-        ),
-        (
-            TEXT.replace("(7 4)", "(7 6)"),
-            2,
-            WRONG_LINE,
-            ": '(disk 1 (7 6))'",
-        ),
-        (
-            TEXT.replace("(disk 2)", "(disk 3)"),
-            3,
-            WRONG_LINE,
-            ": '(disk 3)'",
-        ),
-        (
-            TEXT.replace("(disk 2)", ""),
-            3,
-            WRONG_LINE,
-            ": an empty line",
-        ),
-        (
-            TEXT.replace("served 4", "served 5"),
-            5,
-            WRONG_LINE,
-            ": '(served 5 9)'",
-        ),
-        (
-            TEXT.replace('\n', "\r\n"),
-            1,
-            WRONG_LINE,
-            ": '(rack 2 2 5)\\r'",
-        ),
-        (
-            TEXT.replace("(disk 2)", "\u{1b}[1m\0"),
-            3,
-            WRONG_LINE,
-            ": '\\x1b[1m\\x00'",
-        ),
-        (
-            TEXT.replace("(left (3 9))", "(left (3 9)) "),
-            4,
-            WRONG_LINE,
-            ": '(left (3 9)) '",
-        ),
-        ("(refused 6 2)\n".into(), 1, WRONG_LINE, ": '(refused 6 2)'"),
-    ];
-    for (text, line, words, content) in refused {
-        let folder = Folder::with("plan.txt", text);
-        let said = format!("plan.txt:{line}: {words} (refused 9, line {line}){content}");
-        folder.run(&["check", "plan.txt"]).failed(1, &said);
-        folder.run(&["show", "plan.txt"]).failed(1, &said);
+            words,
+            &format!(": {content}"),
+        );
+    }
+}
+
+#[test]
+fn a_text_with_a_wrong_line_is_refused() {
+    for (part, other, line, content) in REPLACED {
+        let text = TEXT.replace(part, other);
+        expect_refused(&text, line, WRONG_LINE, &format!(": {content}"));
     }
 }
 

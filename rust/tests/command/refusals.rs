@@ -70,10 +70,20 @@ fn the_list_that_is_too_long_is_named_at_record_1025() {
     );
 }
 
+/// Asserts that planning these records is refused with these words.
+fn expect_refused(records: Vec<u8>, words: &str) {
+    let folder = Folder::with("ferry.bin", records);
+    let ran = folder.run(&["plan", "--records", "ferry.bin"]);
+    ran.failed(1, &format!("ferry.bin: {words}"));
+}
+
+/// The bytes of a small rack and these records.
+fn input(demands: &[(u32, u32)]) -> Vec<u8> {
+    plan_input(rack(2, 2, 40), demands)
+}
+
 #[test]
-fn records_have_no_lines() {
-    let small = rack(2, 2, 40);
-    let input = |demands: &[(u32, u32)]| plan_input(small, demands);
+fn records_of_a_wrong_shape_are_refused() {
     let odd = [input(&[(1, 1)]), vec![0; 5]].concat();
     let films: Vec<(u32, u32)> = (1..=1_025).map(|film| (film, 1)).collect();
     let refused = [
@@ -94,6 +104,15 @@ fn records_have_no_lines() {
             input(&films),
             "the list has more than 1024 records (refused 3)",
         ),
+    ];
+    for (records, words) in refused {
+        expect_refused(records, words);
+    }
+}
+
+#[test]
+fn a_refused_record_is_named_without_a_line() {
+    let refused = [
         (
             input(&[(1, 1), (0, 1)]),
             "film number 0 is outside 1 to 65535 (refused 4, record 2)",
@@ -107,10 +126,8 @@ fn records_have_no_lines() {
             "film 4 is in the list twice (refused 6, record 4), first in record 2",
         ),
     ];
-    for (bytes, words) in refused {
-        let folder = Folder::with("ferry.bin", bytes);
-        let ran = folder.run(&["plan", "--records", "ferry.bin"]);
-        ran.failed(1, &format!("ferry.bin: {words}"));
+    for (records, words) in refused {
+        expect_refused(records, words);
     }
 }
 

@@ -109,49 +109,52 @@ fn one_disk(viewers: u32, amount: u32) -> Plan {
     }
 }
 
+const EMPTY: &str = "[....................]";
+
+/// Viewers of film 1 and what is left of film 2; what is said of the sums, and the bar.
+const SHARES: [(u32, u32, &str, &str); 7] = [
+    (0, 0, "no film has viewers, and none is left", EMPTY),
+    (
+        0,
+        5,
+        "served 0 of 5 viewers, 0.00 %; 5 viewers of 1 film are left",
+        EMPTY,
+    ),
+    (
+        1,
+        0,
+        "served 1 of 1 viewer, 100.00 %",
+        "[#...................]",
+    ),
+    (
+        65_534,
+        1,
+        "served 65534 of 65535 viewers, 99.99 %; 1 viewer of 1 film is left",
+        "[###################.]",
+    ),
+    (
+        65_535,
+        1,
+        "served 65535 of 65536 viewers, 99.99 %; 1 viewer of 1 film is left",
+        "[####################]",
+    ),
+    (
+        1,
+        2,
+        "served 1 of 3 viewers, 33.33 %; 2 viewers of 1 film are left",
+        "[#...................]",
+    ),
+    (
+        2,
+        1,
+        "served 2 of 3 viewers, 66.66 %; 1 viewer of 1 film is left",
+        "[#...................]",
+    ),
+];
+
 #[test]
 fn the_share_and_the_bar_are_never_rounded_up_to_all() {
-    let empty = "[....................]";
-    let cases = [
-        (0, 0, "no film has viewers, and none is left", empty),
-        (
-            0,
-            5,
-            "served 0 of 5 viewers, 0.00 %; 5 viewers of 1 film are left",
-            empty,
-        ),
-        (
-            1,
-            0,
-            "served 1 of 1 viewer, 100.00 %",
-            "[#...................]",
-        ),
-        (
-            65_534,
-            1,
-            "served 65534 of 65535 viewers, 99.99 %; 1 viewer of 1 film is left",
-            "[###################.]",
-        ),
-        (
-            65_535,
-            1,
-            "served 65535 of 65536 viewers, 99.99 %; 1 viewer of 1 film is left",
-            "[####################]",
-        ),
-        (
-            1,
-            2,
-            "served 1 of 3 viewers, 33.33 %; 2 viewers of 1 film are left",
-            "[#...................]",
-        ),
-        (
-            2,
-            1,
-            "served 2 of 3 viewers, 66.66 %; 1 viewer of 1 film is left",
-            "[#...................]",
-        ),
-    ];
-    for (viewers, amount, sums, bar) in cases {
+    for (viewers, amount, sums, bar) in SHARES {
         let page = page(&one_disk(viewers, amount));
         assert_eq!(page.lines().last(), Some(sums));
         assert!(page.contains(bar), "{page}");

@@ -1,7 +1,10 @@
 //! Standard output that fails: one line on standard error.
 
 use std::fs::OpenOptions;
-use std::io::{self, Read, Seek};
+use std::io::{Read, Seek};
+use std::net::Shutdown;
+use std::os::fd::OwnedFd;
+use std::os::unix::net::UnixStream;
 use std::process::Command;
 
 use jugfjord::rack::MOST_RECORDS;
@@ -39,11 +42,13 @@ fn standard_output_is_closed() {
 #[test]
 fn nobody_reads_standard_output() {
     expect_unwritten(|| {
-        let (reader, writer) = io::pipe().expect("there are pipes");
-        drop(reader);
+        // A socket, since the reading end of a pipe may be held for a moment by a process that
+        // another test starts.
+        let (writer, reader) = UnixStream::pair().expect("there are sockets");
+        reader.shutdown(Shutdown::Both).expect("it can be shut");
         // The signal would end the program before it can say anything.
         let mut command = shell(r#"trap "" PIPE; exec "$0""#);
-        command.stdout(writer);
+        command.stdout(OwnedFd::from(writer));
         command
     });
 }

@@ -9,9 +9,9 @@ use crate::list_file;
 use crate::standard::Source;
 
 /// The most bytes of a file with a list.
-const MOST_BYTES: usize = 16 * 1024 * 1024;
+const MOST_LIST_BYTES: usize = 16 * 1024 * 1024;
 /// The bytes of N, k and L.
-const RACK: usize = 12;
+const RACK_BYTES: usize = 12;
 
 /// A list as planning takes it, and the lines where it stands.
 pub struct List {
@@ -48,8 +48,11 @@ impl List {
     /// The list in the bytes that `plan` reads. Fewer bytes than N, k and L have are refused 2.
     fn from_records(source: &Source) -> Result<Self, Failure> {
         let bytes = read(source)?;
-        let Some((rack, records)) = bytes.split_first_chunk::<RACK>() else {
-            let words = format!("{} bytes are too few for a rack's {RACK}", bytes.len());
+        let Some((rack, records)) = bytes.split_first_chunk::<RACK_BYTES>() else {
+            let words = format!(
+                "{} bytes are too few for a rack's {RACK_BYTES}",
+                bytes.len()
+            );
             let numbers = Refusal::plain(2).numbers();
             let line = format!("{}: {words} {numbers}", source.name());
             return Err(Failure::refused(line));
@@ -87,9 +90,9 @@ impl List {
 
 /// A file's bytes, if they are no more than a list may have.
 fn read(source: &Source) -> Result<Vec<u8>, Failure> {
-    let bytes = source.read(MOST_BYTES + 1)?;
-    if bytes.len() > MOST_BYTES {
-        let words = format!("more than the {MOST_BYTES} bytes of a list");
+    let bytes = source.read(MOST_LIST_BYTES + 1)?;
+    if bytes.len() > MOST_LIST_BYTES {
+        let words = format!("more than the {MOST_LIST_BYTES} bytes of a list");
         let line = format!("jugfjord: {} has {words}", source.name());
         return Err(Failure::not_done(line));
     }

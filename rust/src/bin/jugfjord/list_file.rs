@@ -14,7 +14,7 @@ const ZERO_BYTE: &str = "expected text, found a zero byte \
 const CR_ALONE: &str = "expected LF or CRLF at the end of each line, found a CR alone \
     (save the list with line ends of Unix or Windows)";
 /// The word that a rack line begins with.
-const RACK: &[u8] = b"rack";
+const RACK_WORD: &[u8] = b"rack";
 const RACK_LINE: &str = "rack DISKS SLOTS STREAMS";
 const FILM_LINE: &str = "FILM DEMAND";
 
@@ -86,9 +86,9 @@ impl Gathered {
         let fields = fields_of(content);
         match (self.rack, fields.as_slice()) {
             (_, []) => {}
-            (None, [RACK, ..]) => self.rack = Some((rack(content, &fields[1..])?, number)),
+            (None, [RACK_WORD, ..]) => self.rack = Some((rack(content, &fields[1..])?, number)),
             (None, _) => return Err(no_rack(&quoted(content))),
-            (Some((_, first)), [RACK, ..]) => return Err(second_rack(content, first)),
+            (Some((_, first)), [RACK_WORD, ..]) => return Err(second_rack(content, first)),
             (Some(_), _) => {
                 let [film, demand] = numbers(FILM_LINE, content, &fields)?;
                 self.records.extend(records(&[(film, demand)]));

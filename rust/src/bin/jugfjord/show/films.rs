@@ -16,12 +16,12 @@ const WIDTH: usize = 54;
 const GAP: &str = "  ";
 
 /// A film's copy: the disk, and the viewers there.
-type Copy = (u32, u32);
+type Stored = (u32, u32);
 
 /// What a plan has of one film.
 #[derive(Default)]
 struct Film {
-    copies: Vec<Copy>,
+    copies: Vec<Stored>,
     left: u32,
 }
 
@@ -57,8 +57,8 @@ fn widest(numbers: impl Iterator<Item = u32>) -> usize {
 }
 
 /// The copies in lines, each with so many digits for its disk and for its viewers.
-fn copy_lines(copies: &[Copy], disk: usize, viewers: usize) -> Vec<String> {
-    let shown = |&(number, amount): &Copy| format!("{number:>disk$}:{amount:<viewers$}");
+fn copy_lines(copies: &[Stored], disk: usize, viewers: usize) -> Vec<String> {
+    let shown = |&(number, amount): &Stored| format!("{number:>disk$}:{amount:<viewers$}");
     let shown: Vec<String> = copies.iter().map(shown).collect();
     let a_line = (WIDTH + GAP.len()) / (disk + 1 + viewers + GAP.len());
     match copies {
