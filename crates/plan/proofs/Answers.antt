@@ -1,7 +1,7 @@
 -- Laws on what a read answers, and on the tests of its sign.
 use mathlib.Core.Path.{_≡_, refl, sym, subst}
 use mathlib.Core.Bool.{true, false}
-use Prim.Native.Nat.{ℕ, zero, suc}
+use Prim.Native.Nat.{zero, suc}
 use native.Mathlib.Omega.{arith}
 use lib.Dec.{T, eqb, ltb→lt}
 use borrow.Author.Tests.{lt-ltb, ne-eqb}

@@ -1,6 +1,5 @@
--- What the program makes of 12 bytes of zeros of which 11 are kept: the line of refusal 2, and nothing else.
-use mathlib.Core.Path.{_≡_, refl, sym, ap, subst, _∙_}
-use mathlib.Core.Bool.{true, false}
+-- What the program makes of 12 bytes of zeros of which 11 are kept: the line of refusal 2 stands at the front.
+use mathlib.Core.Path.{_≡_, refl, sym, ap, subst}
 use mathlib.Core.List.{List, [], map}
 use Prim.Native.Nat.{ℕ}
 use native.Mathlib.Omega.{arith}
@@ -32,6 +31,7 @@ run-printed = record {
   printed = λ _. subst (λ (text : List ℕ). take (length text) (printsAt 5) ≡ text) (sym prints-eleven) refl;
   silent = λ unseen. torn refl unseen;
   settled = settled-end;
+  within = omega arith;
 }
 
 -- It is not that of 12 bytes, and not nothing.
@@ -46,11 +46,19 @@ run-not-empty ran =
 
 -- A failed read: nothing is worked out.
 pub run-silent : RunPromise zeros 11 (negsuc 0) 7 [] []
-run-silent = record { printed = λ seen. torn seen refl; silent = λ _. refl; settled = λ more. torn more refl }
+run-silent = record { printed = λ seen. torn seen refl; silent = λ _. refl; settled = λ more. torn more refl; within = omega arith }
 
-pub run-not-silent : ¬ RunPromise zeros 11 (negsuc 0) 7 [] (printsAt 5)
-run-not-silent ran = omega (arith, ap length (ran .silent refl))
+pub run-not-silent : ¬ RunPromise zeros 11 (negsuc 0) 7 zeros (printsAt 5)
+run-not-silent ran = omega (arith, ap (λ (text : List ℕ). getD text 0 0) (ran .silent refl))
+
+-- The turns are used up: nothing is worked out either.
+pub run-not-given-up : ¬ RunPromise zeros 11 (pos 5) 0 zeros (printsAt 5)
+run-not-given-up ran = omega (arith, ap (λ (text : List ℕ). getD text 0 0) (ran .silent refl))
+
+-- Nothing was counted: no promise.
+pub run-not-counted : ¬ RunPromise zeros 8220 (pos 0) 7 [] (printsAt 5)
+run-not-counted ran = omega (arith, ran .within)
 
 -- Bytes came last: it reads on.
-pub run-not-over : ¬ RunPromise zeros 11 (pos 5) 7 [] []
+pub run-not-over : ¬ RunPromise zeros 11 (pos 5) 1 [] []
 run-not-over ran = settled-not (ran .settled)

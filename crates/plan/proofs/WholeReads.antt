@@ -10,7 +10,7 @@ use Rattle.plan.specs.Answers.{goesOn}
 use Rattle.plan.specs.Reading.{SpaceRead, Counted, ReadOn, InputRead}
 
 -- By whether a test holds.
-by-test : {A : Type 0} (test : Bool) → (test ≡ true → A) → (test ≡ false → A) → A
+pub by-test : {A : Type 0} (test : Bool) → (test ≡ true → A) → (test ≡ false → A) → A
 by-test true holds fails = holds refl
 by-test false holds fails = fails refl
 

@@ -20,7 +20,7 @@ pub record SpaceRead (space kept : ℕ) (last : ℤ) : Type 0 where
   -- an input that ended, or failed, has left room in it
   pub short : goesOn last ≡ false → kept < space
 
--- Some bytes came, none of them uncounted.
+-- The count of what was kept before and of some number of bytes more.
 pub record Counted (before after : ℕ) : Type 0 where
   pub more : ℕ
   pub number : after ≡ kept (before + more)
@@ -35,7 +35,7 @@ pub record ReadOn (before after : ℕ) (first last : ℤ) (turns : ℕ) : Type 0
   pub counted : goesOn first ≡ true → Counted before after
   pub settled : Settled last turns
 
--- The input was read: what is kept of it is in the space.
+-- The input was read: no more is kept of it than the space has room for.
 pub record InputRead (kept : ℕ) (last : ℤ) (turns : ℕ) : Type 0 where
   pub within : kept ≤ mostKept
   pub settled : Settled last turns

@@ -9,12 +9,12 @@ use reading::is_end;
 use reading::read_input;
 ghost use mathlib.Core.Path.{_≡_};
 ghost use mathlib.Core.Bool.{true};
-ghost use Prim.Native.Nat.{_≤_};
+ghost use Prim.Native.Nat.{_≤_, _<_};
 ghost use lib.ListN.{length, take};
 ghost use Rattle.plan_output.specs.Input.{mostKept};
 ghost use Rattle.plan_output.specs.Output.{outputOf};
 ghost use Rattle.plan_output.specs.OutputPromise.{mostOutput};
-ghost use Rattle.plan.specs.Answers.{isEnd};
+ghost use Rattle.plan.specs.Answers.{goesOn, isEnd};
 ghost use Rattle.plan.specs.RunPromise.{RunPromise};
 
 // Says on standard error that the input could not be read to its end.
@@ -36,7 +36,7 @@ fn send(input: &[u8], bytes: &[u8])
     }
 }
 
-// Works out the output for an input whose last read saw its end, and sends it: the first bytes of the space.
+// Works out the output for an input whose last read saw its end, at the front of the space, and sends it.
 fn print(last: isize, input: &[u8], text: &mut [u8])
     requires { ⌜ isEnd last ≡ true ⌝ }
     requires { ⌜ mostOutput ≤ length (now text) ⌝ }
@@ -56,9 +56,10 @@ fn run(
     turns: &mut u64,
 )
     requires { ⌜ length (now input) ≡ mostKept ⌝ }
-    requires { ⌜ 1 ≤ length (now chunk) ⌝ }
+    requires { ⌜ mostKept < length (now chunk) ⌝ }
     requires { ⌜ mostOutput ≤ length (now text) ⌝ }
-    requires { ⌜ now kept ≡ 0 ⌝ }
+    requires { ⌜ mostKept < now kept ⌝ }
+    requires { ⌜ goesOn (now last) ≡ true ⌝ }
     requires { ⌜ now turns ≡ 18446744073709551615 ⌝ }
     ensures { λ _. ⌜ RunPromise
         (now (input .exit)) (now (kept .exit)) (now (last .exit)) (now (turns .exit)) (now (text .entry)) (now (text .exit)) ⌝ }
@@ -73,13 +74,13 @@ fn run(
 }
 
 // Makes the space for what is kept of an input, one for what is only counted, one that every output fits, and the numbers of
-// reading. No input has as many chunks as there are turns.
+// reading: nothing is counted yet, more may come, and no input has as many chunks as there are turns.
 fn main() {
     let mut input = [0u8; MOST_KEPT];
     let mut chunk = io::large_buffer();
     let mut text = [0u8; 43_885];
-    let mut kept = 0;
-    let mut last = 0;
+    let mut kept = usize::MAX;
+    let mut last = 1;
     let mut turns = u64::MAX;
     run(
         &mut input,

@@ -6,7 +6,8 @@
 use libc::STDIN_FILENO;
 use plan_output::keep;
 ghost use mathlib.Core.Path.{_≡_};
-ghost use Prim.Native.Nat.{_-_, _≤_, _<_};
+ghost use mathlib.Core.Bool.{true};
+ghost use Prim.Native.Nat.{_+_, _-_, _≤_, _<_};
 ghost use lib.ListN.{length, take};
 ghost use Rattle.plan_output.specs.Input.{mostKept};
 ghost use Rattle.plan.specs.Answers.{goesOn, isEnd, bytesOf};
@@ -36,9 +37,11 @@ fn bytes_of(answer: isize) -> usize
     answer as usize
 }
 
-// One read into the space.
+// Reads once, counts what came and notes the answer. More may come, and the space has room for what is kept of it.
 fn read_next(space: &mut [u8], kept: &mut usize, last: &mut isize)
+    requires { ⌜ goesOn (now last) ≡ true ⌝ }
     requires { ⌜ 1 ≤ length (now space) ⌝ }
+    requires { ⌜ mostKept ≤ now kept + length (now space) ⌝ }
     ensures { λ _. ⌜ OneRead (length (now (space .entry))) (now (kept .entry)) (now (kept .exit)) (now (last .exit)) ⌝ }
 {
     let answer = libc::read(STDIN_FILENO, space);
@@ -48,9 +51,11 @@ fn read_next(space: &mut [u8], kept: &mut usize, last: &mut isize)
     *last = answer;
 }
 
-// One read into the space behind what is kept. Bytes before it stay as they are.
+// Reads once into the space behind what is kept. Bytes before it stay as they are.
 fn read_behind(space: &mut [u8], kept: &mut usize, last: &mut isize)
-    requires { ⌜ now kept < length (now space) ⌝ }
+    requires { ⌜ goesOn (now last) ≡ true ⌝ }
+    requires { ⌜ length (now space) ≡ mostKept ⌝ }
+    requires { ⌜ now kept < mostKept ⌝ }
     ensures { λ _. ⌜ OneRead
         (length (now (space .entry)) - now (kept .entry)) (now (kept .entry)) (now (kept .exit)) (now (last .exit)) ⌝ }
     ensures { λ _. ⌜ take (now (kept .entry)) (now (space .exit)) ≡ take (now (kept .entry)) (now (space .entry)) ⌝ }
@@ -59,10 +64,11 @@ fn read_behind(space: &mut [u8], kept: &mut usize, last: &mut isize)
     read_next(&mut space[at..], kept, last);
 }
 
-// Fills the space from the start of the input, and reads only where there is room.
+// Fills the space from the start of the input, and reads only where there is room and more may come.
 fn fill_space(space: &mut [u8], kept: &mut usize, last: &mut isize)
     requires { ⌜ length (now space) ≡ mostKept ⌝ }
     requires { ⌜ now kept ≡ 0 ⌝ }
+    requires { ⌜ goesOn (now last) ≡ true ⌝ }
     ensures { λ _. ⌜ SpaceRead (length (now (space .entry))) (now (kept .exit)) (now (last .exit)) ⌝ }
 {
     while *kept < space.len() {
@@ -75,7 +81,8 @@ fn fill_space(space: &mut [u8], kept: &mut usize, last: &mut isize)
 
 // Reads one chunk, which is only counted, and takes a turn for it.
 fn read_chunk(chunk: &mut [u8], kept: &mut usize, last: &mut isize, turns: &mut u64)
-    requires { ⌜ 1 ≤ length (now chunk) ⌝ }
+    requires { ⌜ goesOn (now last) ≡ true ⌝ }
+    requires { ⌜ mostKept < length (now chunk) ⌝ }
     requires { ⌜ 1 ≤ now turns ⌝ }
     ensures { λ _. ⌜ OneRead (length (now (chunk .entry))) (now (kept .entry)) (now (kept .exit)) (now (last .exit)) ⌝ }
     ensures { λ _. ⌜ now (turns .exit) ≡ now (turns .entry) - 1 ⌝ }
@@ -84,10 +91,11 @@ fn read_chunk(chunk: &mut [u8], kept: &mut usize, last: &mut isize, turns: &mut 
     *turns -= 1;
 }
 
-// Reads chunks to the end of the input, or until the turns are used up, which no input does.
+// Reads chunks, behind a space that is full, to the end of the input or until the turns are used up, which no input does.
 fn count_on(chunk: &mut [u8], kept: &mut usize, last: &mut isize, turns: &mut u64)
-    requires { ⌜ 1 ≤ length (now chunk) ⌝ }
-    requires { ⌜ now kept ≤ mostKept ⌝ }
+    requires { ⌜ goesOn (now last) ≡ true ⌝ }
+    requires { ⌜ mostKept < length (now chunk) ⌝ }
+    requires { ⌜ now kept ≡ mostKept ⌝ }
     ensures { λ _. ⌜ Counted (now (kept .entry)) (now (kept .exit)) ⌝ }
     ensures { λ _. ⌜ Settled (now (last .exit)) (now (turns .exit)) ⌝ }
 {
@@ -102,8 +110,8 @@ fn count_on(chunk: &mut [u8], kept: &mut usize, last: &mut isize, turns: &mut u6
 
 // The choice: where the last read saw the end of the input, or failed, that is all; else the input is counted on.
 fn read_on(chunk: &mut [u8], kept: &mut usize, last: &mut isize, turns: &mut u64)
-    requires { ⌜ 1 ≤ length (now chunk) ⌝ }
-    requires { ⌜ now kept ≤ mostKept ⌝ }
+    requires { ⌜ mostKept < length (now chunk) ⌝ }
+    requires { ⌜ SpaceRead mostKept (now kept) (now last) ⌝ }
     ensures { λ _. ⌜ ReadOn
         (now (kept .entry)) (now (kept .exit)) (now (last .entry)) (now (last .exit)) (now (turns .exit)) ⌝ }
 {
@@ -112,7 +120,8 @@ fn read_on(chunk: &mut [u8], kept: &mut usize, last: &mut isize, turns: &mut u64
     }
 }
 
-// Reads the whole input: its first bytes into the space, and then as many chunks as there are.
+// Reads the whole input: its first bytes into the space, and then as many chunks as there are. `kept` comes with a number that no
+// input has, and begins at 0 here.
 pub(crate) fn read_input(
     space: &mut [u8],
     chunk: &mut [u8],
@@ -121,10 +130,12 @@ pub(crate) fn read_input(
     turns: &mut u64,
 )
     requires { ⌜ length (now space) ≡ mostKept ⌝ }
-    requires { ⌜ 1 ≤ length (now chunk) ⌝ }
-    requires { ⌜ now kept ≡ 0 ⌝ }
+    requires { ⌜ mostKept < length (now chunk) ⌝ }
+    requires { ⌜ mostKept < now kept ⌝ }
+    requires { ⌜ goesOn (now last) ≡ true ⌝ }
     ensures { λ _. ⌜ InputRead (now (kept .exit)) (now (last .exit)) (now (turns .exit)) ⌝ }
 {
+    *kept = 0;
     fill_space(space, kept, last);
     read_on(chunk, kept, last, turns);
 }

@@ -1,5 +1,5 @@
 -- `print` is safe, since the output fits the space, and leaves the output at its front.
-use mathlib.Core.Path.{sym}
+use native.Mathlib.Omega.{arith}
 use lib.Seq.{length-take-le}
 use Rattle.plan_output.proofs.Outputs.{output-fits, output-front}
 use borrow.Author.Needs.{needs}
@@ -7,10 +7,10 @@ use Rattle.plan.proofs.print.Statement.{statement}
 use Rattle.plan.proofs.print.Tie as tie
 
 slice-reshare-prefix-send : tie.Need-slice-reshare-prefix-send
-slice-reshare-prefix-send c = output-fits (c .before .before .output .ensures)
+slice-reshare-prefix-send c = omega (arith, output-fits (c .before .before .output .ensures))
 
 slice-aggregate-send : tie.Need-slice-aggregate-send
-slice-aggregate-send c = sym (length-take-le _ _ (output-fits (c .before .before .before .output .ensures)))
+slice-aggregate-send c = let fits = output-fits (c .before .before .before .output .ensures) in search (needs, length-take-le, fits)
 
 send-requires : tie.Need-send-requires
 send-requires c κs =

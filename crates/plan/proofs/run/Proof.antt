@@ -16,6 +16,12 @@ use Rattle.plan.proofs.run.Tie as tie
 abbrev read-of : tie.After-is-end → tie.After-read-input
 read-of c = c .before .before .before .before .before .before
 
+read-input-requires : tie.Need-read-input-requires
+read-input-requires c κs =
+    let pre = c .before .before .before .before .before .before .before .before .pre in
+    let numbers = pre .1 .1 .1 in
+    (pre .0, (pre .1 .0, (numbers .0, numbers .1 .0)))
+
 -- The test is of what the last read answered.
 unseen : (c : tie.Then1) → isEnd (read-of (c .before) .read-input .last .1 .1 .1 .0) ≡ false
 unseen c = search needs ∙ sym (c .before .is-end .ensures) ∙ not-true (c .before .is-end .result) (c .if1 .taken)
@@ -26,14 +32,14 @@ seen c = search needs ∙ sym (c .before .is-end .ensures) ∙ not-false (c .bef
 returns : tie.Need-returns
 returns c =
     let at-test = c .before in
-    run-unseen (read-of (at-test .before) .read-input .ensures .settled) (unseen at-test)
+    run-unseen (read-of (at-test .before) .read-input .ensures) (unseen at-test)
 
 -- What is kept of the input is in its space.
 within : (c : tie.After-row-known) → let read = read-of (c .before .before) .read-input in read .last .1 .1 .0 ≤ length (read .last .0)
 within c = omega (arith, read-of (c .before .before) .read-input .ensures .within)
 
 slice-aggregate-print : tie.Need-slice-aggregate-print
-slice-aggregate-print c = sym (length-take-le _ _ (within (c .before .before)))
+slice-aggregate-print c = let fits = within (c .before .before) in search (needs, length-take-le, fits)
 
 print-requires : tie.Need-print-requires
 print-requires c κs =
@@ -45,13 +51,13 @@ returns-2 : tie.Need-returns-2
 returns-2 c =
     let at-print = c .before .before in
     let at-test = at-print .before .before .before .before .before in
-    run-seen (read-of (at-test .before) .read-input .ensures .settled) (seen at-test) (at-print .print .ensures)
+    run-seen (read-of (at-test .before) .read-input .ensures) (seen at-test) (at-print .print .ensures)
 
 pub run-spec : {M : Type 1} → statement M
 run-spec =
     tie.close
     (tie.spec
-    (λ c κs. search needs)
+    read-input-requires
     (λ c κs. search needs)
     (λ c κs. search needs)
     (λ c. search needs)

@@ -14,15 +14,19 @@ use Rattle.plan.proofs.reading.fill_space.Statement.{statement}
 use Rattle.plan.proofs.reading.fill_space.Tie as tie
 
 abbrev Inv-loop : tie.InvT-loop
-Inv-loop space₀ kept₀ last₀ space kept last = (kept ≤ mostKept) × (length space ≡ mostKept) × (1 ≤ kept → goesOn last ≡ true)
+Inv-loop space₀ kept₀ last₀ space kept last = (kept ≤ mostKept) × (length space ≡ mostKept) × (goesOn last ≡ true)
 
 abbrev μ-loop : tie.MeasureT-loop
 μ-loop space₀ kept₀ last₀ space kept last = mostKept - kept
 
 loop-holds : tie.Need-loop-holds Inv-loop μ-loop
-loop-holds c =
-    let none = c .before .pre .1 in
-    (omega (arith, none), c .before .pre .0, λ some. absurd (let clash : ⊥ = omega (arith, none, some) in clash))
+loop-holds c = let pre = c .before .pre in (omega (arith, pre .1 .0), pre .0, pre .1 .1)
+
+read-behind-requires : tie.Need-read-behind-requires Inv-loop μ-loop
+read-behind-requires c κs =
+    let at-turn = c .before .before .before in
+    let inv = at-turn .before .loop .inv in
+    (inv .2, (inv .1, omega arith))
 
 -- the read of a turn and what it answered, from where its answer is tested
 abbrev read-of : tie.After-goes-on Inv-loop μ-loop → tie.After-read-behind Inv-loop μ-loop
@@ -47,12 +51,12 @@ loop-less c = omega (arith, grows-some (read-of (c .before) .read-behind .ensure
 
 loop-again : tie.Need-loop-again Inv-loop μ-loop
 loop-again c =
-    (omega (arith, within-room (read-of (c .before) .read-behind .ensures .0) (omega arith)), search needs, λ _. more c)
+    (omega (arith, within-room (read-of (c .before) .read-behind .ensures .0) (omega arith)), search needs, more c)
 
 returns-2 : tie.Need-returns-2 Inv-loop μ-loop
 returns-2 c =
     let inv = c .before .loop .inv in
-    record { full = λ _. omega arith; short = λ over. torn (inv .2 (omega arith)) over }
+    record { full = λ _. omega arith; short = λ over. torn (inv .2) over }
 
 pub fill-space-spec : {M : Type 1} → statement M
 fill-space-spec =
@@ -61,7 +65,7 @@ fill-space-spec =
     Inv-loop
     μ-loop
     loop-holds
-    (λ c κs. search needs)
+    read-behind-requires
     (λ c κs. search needs)
     (λ c. search needs)
     returns

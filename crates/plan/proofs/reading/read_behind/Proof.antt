@@ -16,8 +16,11 @@ part-length space at = omega (arith, length-take (length space - at) (drop at sp
 
 read-next-requires : tie.Need-read-next-requires
 read-next-requires c κs =
-    let args = c .before .before .before .before .before .args in
-    omega (arith, part-length (args .space .now) (args .kept .now), c .before .before .before .before .before .pre)
+    let at-start = c .before .before .before .before .before in
+    let room = part-length (at-start .args .space .now) (at-start .args .kept .now) in
+    let full = at-start .pre .1 .0 in
+    let short = at-start .pre .1 .1 in
+    (at-start .pre .0, (omega (arith, room, full, short), omega (arith, room, full, short)))
 
 returns : tie.Need-returns
 returns c =
@@ -27,7 +30,7 @@ returns c =
     let at = at-start .args .kept .now in (
       subst (λ (most : ℕ). OneRead most at (at-read .read-next .last .1 .0) (at-read .read-next .last .1 .1 .0))
           (part-length space at) (at-read .read-next .ensures),
-      take-put at (length space - at) space (at-read .read-next .last .0) (omega (arith, at-start .pre)),
+      take-put at (length space - at) space (at-read .read-next .last .0) (omega (arith, at-start .pre .1 .0, at-start .pre .1 .1)),
     )
 
 pub read-behind-spec : {M : Type 1} → statement M

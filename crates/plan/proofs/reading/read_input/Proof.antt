@@ -4,7 +4,7 @@ use Prim.Native.Nat.{ℕ}
 use borrow.Author.Needs.{needs}
 use Rattle.plan_output.specs.Input.{mostKept}
 use Rattle.plan.specs.Reading.{SpaceRead}
-use Rattle.plan.proofs.WholeReads.{space-within, input-read}
+use Rattle.plan.proofs.WholeReads.{input-read}
 use Rattle.plan.proofs.reading.read_input.Statement.{statement}
 use Rattle.plan.proofs.reading.read_input.Tie as tie
 
@@ -21,7 +21,7 @@ filled c =
 read-on-requires : tie.Need-read-on-requires
 read-on-requires c κs =
     let at-fill = c .before .before .before .before .before .before in
-    (start-of at-fill .pre .1 .0, space-within (filled at-fill))
+    (start-of at-fill .pre .1 .0, filled at-fill)
 
 returns : tie.Need-returns
 returns c =

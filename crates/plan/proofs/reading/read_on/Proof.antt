@@ -17,6 +17,12 @@ more c = search needs ∙ sym (c .before .goes-on .ensures) ∙ c .if1 .taken
 over : (c : tie.Else1) → goesOn (start-of (c .before) .args .last .now) ≡ false
 over c = search needs ∙ sym (c .before .goes-on .ensures) ∙ c .if1 .left
 
+count-on-requires : tie.Need-count-on-requires
+count-on-requires c κs =
+    let at-test = c .before .before .before .before in
+    let pre = start-of (at-test .before) .pre in
+    (more at-test, (pre .0, pre .1 .full (more at-test)))
+
 returns : tie.Need-returns
 returns c =
     let at-count = c .before .before in
@@ -33,4 +39,4 @@ returns-2 c =
 
 pub read-on-spec : {M : Type 1} → statement M
 read-on-spec =
-    tie.close (tie.spec (λ c κs. search needs) (λ c κs. search needs) (λ c. search needs) returns returns-2)
+    tie.close (tie.spec (λ c κs. search needs) count-on-requires (λ c. search needs) returns returns-2)
