@@ -9,24 +9,21 @@ use Rattle.refusal.specs.Verdict.{Verdict, given}
 use Rattle.refusal.proofs.Verdicts.{unless-given}
 use Rattle.placement.specs.Items.{Item, amountOf, total, listOf}
 use Rattle.placement.specs.Rack.{rackAccepted, mostRecords, mostDemand}
-use Rattle.placement.specs.Method.{placement, remaining, leftOf}
 use Rattle.placement.specs.Records.{recordCount, shapeJudged, recordsJudged}
 use Rattle.placement.specs.Tables.{Tables, roomFor}
 use Rattle.placement.specs.Plan.{disksAccepted, leftAccepted, servedOf, unservedOf}
-use Rattle.placement.specs.Planning.{Call, recordsIn, planIn, roomJudged, verdict}
-use Rattle.placement.specs.Promise.{Distinct}
+use Rattle.placement.specs.Planning.{Call, recordsIn, leftIn, planIn, roomJudged, verdict}
 use Rattle.placement.specs.WellFormed.{Each, Demanded, RecordsAccepted, Entry, Bounded, CallWellFormed}
 use Rattle.placement.proofs.Conjunctions.{and-holds}
 use Rattle.placement.proofs.Racks.{accepted-allLoads}
-use Rattle.placement.proofs.Sums.{length-sum, one}
 use Rattle.placement.proofs.Films.{Usable}
-use Rattle.placement.proofs.Listed.{listOf-distinct, sumBy-listOf-le}
 use Rattle.placement.proofs.BestSharing.{plan-total}
 use Rattle.placement.proofs.Each.{each-map, each-byFilm}
 use Rattle.placement.proofs.Records.{records-length, shape-given, records-accepted}
 use Rattle.placement.proofs.Formed.{disks-served, left-accepted}
 use Rattle.placement.proofs.ByFilm.{sumBy-byFilm, byFilm-length, byFilm-ascending}
-use Rattle.placement.proofs.WellFormed.{accepted-usable, listOf-entries, placement-accepted, placement-windows, remaining-entries, remaining-distinct, remaining-count}
+use Rattle.placement.proofs.WellFormed.{accepted-usable, listOf-entries, placement-windows}
+use Rattle.placement.proofs.ShelfPlan.{copies-accepted, left-distinct, left-few, left-entries, left-total}
 
 -- What a call that is not refused has: an accepted rack, not too many records, tables with room, and accepted records.
 pub call-judged :
@@ -53,7 +50,7 @@ accepted-wellFormed c rack few accepted = record {
   rack = rack;
   recordsMost = few;
   accepted = accepted;
-  plan = and-holds (rackAccepted (c .rack)) _ rack (and-holds (disksAccepted (c .rack) (placement (c .rack) list)) _ disks left);
+  plan = and-holds (rackAccepted (c .rack)) _ rack (and-holds (disksAccepted (c .rack) (planIn c .copies)) _ disks left);
   leftMost = count;
   bounds = bounds;
   servedMost = omega (arith, bounds .served, accepted-allLoads (c .rack) rack);
@@ -61,50 +58,37 @@ accepted-wellFormed c rack few accepted = record {
   unservedMost = omega (arith, bounds .unserved, demand);
 }
   where
-    list : List Item
-    list = listOf (recordsIn c)
-
     usable : Usable (c .rack)
     usable = accepted-usable (c .rack) rack
 
-    entries : Each (Entry mostDemand) list
-    entries = listOf-entries (recordsIn c) accepted
+    disks : disksAccepted (c .rack) (planIn c .copies) ≡ true
+    disks = copies-accepted (c .rack) (recordsIn c) usable accepted
 
-    distinct : Distinct list
-    distinct = listOf-distinct (recordsIn c) (accepted .distinct)
+    count : length (planIn c .left) ≤ recordCount (c .list)
+    count = omega (arith, left-few (c .rack) (recordsIn c) usable accepted, byFilm-length (leftIn c), records-length (c .list))
 
-    disks : disksAccepted (c .rack) (placement (c .rack) list) ≡ true
-    disks = placement-accepted (c .rack) list usable entries distinct
+    entries : Each (Entry mostDemand) (leftIn c)
+    entries = left-entries (c .rack) (recordsIn c) usable accepted
 
-    remain : Each (Entry mostDemand) (remaining (c .rack) list)
-    remain = remaining-entries (c .rack) list usable entries
-
-    count : length (leftOf (c .rack) list) ≤ recordCount (c .list)
-    count =
-        omega (
-          arith,
-          remaining-count (c .rack) list usable,
-          byFilm-length (remaining (c .rack) list),
-          length-sum list,
-          length-sum (recordsIn c),
-          sumBy-listOf-le one (recordsIn c),
-          records-length (c .list),
-        )
-
-    left : leftAccepted (leftOf (c .rack) list) ≡ true
+    left : leftAccepted (planIn c .left) ≡ true
     left =
-        left-accepted (leftOf (c .rack) list) (omega (arith, count, few))
-        (byFilm-ascending (remaining (c .rack) list)
-        (each-map (Entry mostDemand) (λ x. 1 ≤ x .film) (remaining (c .rack) list) (λ x entry. entry .filmLeast) remain)
-        (remaining-distinct (c .rack) list usable distinct))
-        (each-byFilm (Entry mostDemand) (remaining (c .rack) list) remain)
+        left-accepted (planIn c .left) (omega (arith, count, few))
+        (byFilm-ascending (leftIn c) (each-map (Entry mostDemand) (λ x. 1 ≤ x .film) (leftIn c) (λ x entry. entry .filmLeast) entries)
+        (left-distinct (c .rack) (recordsIn c) usable accepted))
+        (each-byFilm (Entry mostDemand) (leftIn c) entries)
 
     bounds : Bounded (c .rack) (recordsIn c) (servedOf (planIn c)) (unservedOf (planIn c))
     bounds = record {
-      served = disks-served (c .rack) (placement (c .rack) list) disks;
-      unserved = omega (arith, plan-total (c .rack) (recordsIn c) usable, sumBy-byFilm amountOf (remaining (c .rack) list));
+      served = disks-served (c .rack) (planIn c .copies) disks;
+      unserved =
+          omega (
+            arith,
+            plan-total (c .rack) (recordsIn c) usable,
+            sumBy-byFilm amountOf (leftIn c),
+            left-total (c .rack) (recordsIn c) usable accepted,
+          );
       demand = total-demanded (recordsIn c) (accepted .demanded);
-      windows = placement-windows (c .rack) list usable entries;
+      windows = placement-windows (c .rack) (listOf (recordsIn c)) usable (listOf-entries (recordsIn c) accepted);
     }
 
     demand : total (recordsIn c) ≤ 1024000000

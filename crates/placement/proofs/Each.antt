@@ -41,6 +41,11 @@ pub each-map : {A : Type 0} (P Q : A → Type 0) (xs : List A) → ((x : A) → 
 each-map P Q [] follows all = tt
 each-map P Q (x ∷ xs) follows all = (follows x (all .0), each-map P Q xs follows (all .1))
 
+-- Two properties that each member has.
+pub each-both : {A : Type 0} (P Q : A → Type 0) (xs : List A) → Each P xs → Each Q xs → Each (λ x. P x × Q x) xs
+each-both P Q [] all more = tt
+each-both P Q (x ∷ xs) all more = ((all .0, more .0), each-both P Q xs (all .1) (more .1))
+
 module _ (P : Item → Type 0) where
   -- The films of a window.
   pub each-within : (w : Window) (xs : List Item) → Each P xs → Each P (within w xs)

@@ -23,11 +23,10 @@ use Rattle.placement.proofs.Formed.{disk-accepted}
 use Rattle.placement.proofs.Each.{each-append, each-within, each-outside, each-allButLast, each-last, each-enter}
 
 -- The last film of a window with another number.
-entry-changed : (most : ℕ) (x : Item) (a : ℕ) → Entry most x → 1 ≤ a → a ≤ x .amount → Entry most (item (x .film) a)
-entry-changed most x a entry some few = record {
+entry-changed : (most : ℕ) (x : Item) (a : ℕ) → Entry most x → a ≤ x .amount → Entry most (item (x .film) a)
+entry-changed most x a entry few = record {
   filmLeast = entry .filmLeast;
   filmMost = entry .filmMost;
-  amountLeast = some;
   amountMost = omega (arith, entry .amountMost);
 }
 
@@ -114,13 +113,13 @@ module _ (d : Disk) (list : List Item) (someSlots : 1 ≤ d .slots) (someLoad : 
         reaching h =
             subst (λ (r : List Item). Each (Entry most) r) (sym (stored-reaching (d .load) films h))
             (each-append (Entry most) (allButLast films) _ (each-allButLast (Entry most) films films-entries)
-            (entry-changed most (lastFilm films) lastViewers (last-entry (omega arith)) (omega (arith, last-needed h)) (viewers-most h), tt))
+            (entry-changed most (lastFilm films) lastViewers (last-entry (omega arith)) (viewers-most h), tt))
 
     -- The next list holds entries with numbers in the same range.
     pub after-entries : Each (Entry most) (listAfter d list)
     after-entries =
         each-enter (Entry most) rest (outside (windowOf d list) list)
-        (λ h. entry-changed most (lastFilm films) (rest .amount) (last-entry (omega arith)) h rest-most)
+        (λ h. entry-changed most (lastFilm films) (rest .amount) (last-entry (omega arith)) rest-most)
         (each-outside (Entry most) (windowOf d list) list entries)
 
     -- A disk's copies are accepted.

@@ -36,7 +36,7 @@ same-film f x h = go (eqb f (x .film)) refl h
     go false e h = absurd (omega arith)
 
 -- An item counts at most once.
-oneIf-le : (f : ℕ) (x : Item) → oneIf f x ≤ 1
+pub oneIf-le : (f : ℕ) (x : Item) → oneIf f x ≤ 1
 oneIf-le f x = go (eqb f (x .film))
   where
     go : (b : Bool) → cond b 1 0 ≤ 1

@@ -23,19 +23,13 @@ copies-entries : (most : ℕ) (xs : List Item) → every copyAccepted xs ≡ tru
 copies-entries most [] e h = tt
 copies-entries most (x ∷ xs) e h =
     let both = both-true (copyAccepted x) (every copyAccepted xs) e in
-    let here = both-true (inRange mostPlanFilm (x .film)) (leb 1 (x .amount)) (both .0) in
-    let film = inRange-bounds mostPlanFilm (x .film) (here .0) in (
-      record {
-        filmLeast = film .0;
-        filmMost = film .1;
-        amountLeast = leb-true 1 (x .amount) (here .1);
-        amountMost = omega arith;
-      },
+    let film = inRange-bounds mostPlanFilm (x .film) (both .0) in (
+      record { filmLeast = film .0; filmMost = film .1; amountMost = omega arith },
       copies-entries most xs (both .1) (omega arith),
     )
 
 module _ (d : Disk) (copies : List Item) where
-  -- The parts of a disk's test: at most k copies, distinct films, each a film with viewers, at most L in sum.
+  -- The parts of a disk's test: at most k copies, distinct films, each in range, at most L in sum.
   module _ (e : diskAccepted d copies ≡ true) where
     first :
         (leb (length copies) (d .slots) ≡ true)
@@ -68,7 +62,7 @@ module _ (d : Disk) (copies : List Item) where
       and-holds _ _ (le-leb (length copies) (d .slots) count)
       (and-holds _ _ (distinct-passes copies distinct)
       (and-holds _ _ (each-every copyAccepted (Entry most) copies
-      (λ x h. and-holds _ _ (in-range mostPlanFilm (x .film) (h .filmLeast) (h .filmMost)) (le-leb 1 (x .amount) (h .amountLeast))) entries)
+      (λ x h. in-range mostPlanFilm (x .film) (h .filmLeast) (h .filmMost)) entries)
       (le-leb (total copies) (d .load) load)))
 
 -- Accepted disks have one list of copies each,
@@ -113,12 +107,11 @@ module _ (left : List Item) where
       where
         says : (x : Item) → leftFilmAccepted x ≡ true → Entry mostDemand x
         says x h =
-            let both = both-true (inRange mostPlanFilm (x .film)) (inRange mostDemand (x .amount)) h in
+            let both = both-true (inRange mostPlanFilm (x .film)) (leb (x .amount) mostDemand) h in
             record {
               filmLeast = inRange-bounds mostPlanFilm (x .film) (both .0) .0;
               filmMost = inRange-bounds mostPlanFilm (x .film) (both .0) .1;
-              amountLeast = inRange-bounds mostDemand (x .amount) (both .1) .0;
-              amountMost = inRange-bounds mostDemand (x .amount) (both .1) .1;
+              amountMost = leb-true (x .amount) mostDemand (both .1);
             }
 
   -- What has them passes it.
@@ -128,7 +121,7 @@ module _ (left : List Item) where
       (and-holds _ _ ascending
       (each-every leftFilmAccepted (Entry mostDemand) left
       (λ x h. and-holds _ _ (in-range mostPlanFilm (x .film) (h .filmLeast) (h .filmMost))
-      (in-range mostDemand (x .amount) (h .amountLeast) (h .amountMost))) entries))
+      (le-leb (x .amount) mostDemand (h .amountMost))) entries))
 
 -- The parts of a plan's test.
 module _ (p : Plan) (e : wellFormed p ≡ true) where

@@ -19,7 +19,7 @@ abbrev pub together : List (List Item) → List Item
 together [] = []
 together (copies ∷ rest) = copies ++ together rest
 
-together-served : (shares : List (List Item)) → total (together shares) ≡ served shares
+pub together-served : (shares : List (List Item)) → total (together shares) ≡ served shares
 together-served [] = refl
 together-served (copies ∷ rest) = omega (arith, sumBy-append (λ x. x .amount) copies (together rest), together-served rest)
 
@@ -52,7 +52,7 @@ sameCopies-onWindows (d ∷ ds) list (copies ∷ rest) usable e =
     )
 
 -- A film that is not in the list is on no disk.
-onWindows-absent :
+pub onWindows-absent :
     (disks : List Disk) (list : List Item) (shares : List (List Item)) → Usable disks → OnWindows disks list shares
     → (f : ℕ) → occurrences f list ≡ 0 → occurrences f (together shares) ≡ 0
 onWindows-absent [] list [] usable on f h = refl

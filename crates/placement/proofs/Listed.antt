@@ -23,7 +23,7 @@ pub sumBy-listOf : (w : Item → ℕ) (records : List Item) → sumBy w (listOf 
 sumBy-listOf w records = omega (arith, sumBy-enterAll w [] records)
 
 -- A weight that is no larger on any item has no larger a sum.
-sumBy-le : (v w : Item → ℕ) (xs : List Item) → ((x : Item) → v x ≤ w x) → sumBy v xs ≤ sumBy w xs
+pub sumBy-le : (v w : Item → ℕ) (xs : List Item) → ((x : Item) → v x ≤ w x) → sumBy v xs ≤ sumBy w xs
 sumBy-le v w [] less = omega arith
 sumBy-le v w (x ∷ xs) less = omega (arith, less x, sumBy-le v w xs less)
 

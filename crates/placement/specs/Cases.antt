@@ -1,4 +1,4 @@
--- Cases A to I of document 01, planning's edges and its refusals, as one table: what is asked, and what the answer and the lent tables then are.
+-- Cases A to I of document 01, planning's edges, shelf copies and its refusals, as one table: what is asked, and what the answer and the lent tables then are.
 use Prim.Native.Nat.{ℕ, _+_, _*_, _/_, _%_}
 use mathlib.Core.List.{List, [], _∷_, _++_, map}
 use lib.ListN.{length, replicate}
@@ -105,7 +105,7 @@ caseF =
 abbrev pub caseG : Row
 caseG =
     row (rackOf 1 4 9) (4 ∶ 0 ∷ 1 ∶ 2 ∷ 2 ∶ 3 ∷ [])
-    (plans 5 0 0 (1 ∶ 2 ∷ 2 ∶ 3 ∷ none ∷ none ∷ []) (2 ∷ []) (none ∷ none ∷ none ∷ []))
+    (plans 5 0 0 (1 ∶ 2 ∷ 2 ∶ 3 ∷ 4 ∶ 0 ∷ none ∷ []) (3 ∷ []) (none ∷ none ∷ none ∷ []))
 
 abbrev pub caseH : Row
 caseH = row (rackOf 1 1 5) (7 ∶ 5 ∷ 2 ∶ 5 ∷ []) (plans 5 5 1 (2 ∶ 5 ∷ []) (1 ∷ []) (7 ∶ 5 ∷ none ∷ []))
@@ -135,6 +135,21 @@ edges =
       lent = sevens 2 2 2;
       expected = plans 65535 516 1 (258 ∶ 65535 ∷ []) (1 ∷ []) (258 ∶ 516 ∷ []);
     }
+    ∷ []
+
+-- Shelf copies: the only slot is taken, and the film is left. Films in ascending number, to disk 1 first and then to disk 2. Disk 1 is
+-- full, and on disk 2 the film stands behind the other copy. A list of demand 0 alone. Several films without a slot. A film without a
+-- slot between two films that the method leaves.
+abbrev pub shelves : List Row
+shelves =
+    row (rackOf 1 1 5) (7 ∶ 5 ∷ 2 ∶ 0 ∷ []) (plans 5 0 1 (7 ∶ 5 ∷ []) (1 ∷ []) (2 ∶ 0 ∷ none ∷ []))
+    ∷ row (rackOf 2 2 5) (3 ∶ 0 ∷ 9 ∶ 5 ∷ 1 ∶ 0 ∷ 2 ∶ 0 ∷ [])
+    (plans 5 0 0 (9 ∶ 5 ∷ 1 ∶ 0 ∷ 2 ∶ 0 ∷ 3 ∶ 0 ∷ []) (2 ∷ 2 ∷ []) (replicate 4 none))
+    ∷ row (rackOf 2 2 5) (4 ∶ 2 ∷ 5 ∶ 3 ∷ 6 ∶ 4 ∷ 1 ∶ 0 ∷ [])
+    (plans 9 0 0 (4 ∶ 2 ∷ 5 ∶ 3 ∷ 6 ∶ 4 ∷ 1 ∶ 0 ∷ []) (2 ∷ 2 ∷ []) (replicate 4 none))
+    ∷ row (rackOf 2 1 5) (3 ∶ 0 ∷ 1 ∶ 0 ∷ 2 ∶ 0 ∷ []) (plans 0 0 1 (1 ∶ 0 ∷ 2 ∶ 0 ∷ []) (1 ∷ 1 ∷ []) (3 ∶ 0 ∷ none ∷ none ∷ []))
+    ∷ row (rackOf 1 1 5) (8 ∶ 0 ∷ 6 ∶ 0 ∷ 4 ∶ 0 ∷ []) (plans 0 0 2 (4 ∶ 0 ∷ []) (1 ∷ []) (6 ∶ 0 ∷ 8 ∶ 0 ∷ none ∷ []))
+    ∷ row (rackOf 1 1 1) (9 ∶ 2 ∷ 5 ∶ 0 ∷ 3 ∶ 5 ∷ 7 ∶ 1 ∷ []) (plans 1 7 3 (7 ∶ 1 ∷ []) (1 ∷ []) (3 ∶ 5 ∷ 5 ∶ 0 ∷ 9 ∶ 2 ∷ none ∷ []))
     ∷ []
 
 -- 1: N, k or L outside its range, or unequal disks, also where the list is at fault too.
@@ -188,4 +203,4 @@ recordRefusals =
 
 -- The whole table.
 abbrev pub rows : List Row
-rows = cases ++ (edges ++ (rackRefusals ++ (shapeRefusals ++ (roomRefusals ++ recordRefusals))))
+rows = cases ++ (edges ++ (shelves ++ (rackRefusals ++ (shapeRefusals ++ (roomRefusals ++ recordRefusals)))))

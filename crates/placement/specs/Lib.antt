@@ -3,6 +3,7 @@ pub mod Rack
 pub mod Window
 pub mod Disk
 pub mod Method
+pub mod Shelf
 pub mod Sharing
 pub mod Records
 pub mod Tables
@@ -11,6 +12,7 @@ pub mod PlanExamples
 pub mod Held
 pub mod Planning
 pub mod Promise
+pub mod ShelfPromise
 pub mod WellFormed
 pub mod PlanPromise
 pub mod Cases

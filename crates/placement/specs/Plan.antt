@@ -28,11 +28,11 @@ abbrev pub distinctFilms : List Item → Bool
 distinctFilms [] = true
 distinctFilms (x ∷ xs) = eqb (occurrences (x .film) xs) 0 && distinctFilms xs
 
--- A film in 1 to 65,535 "with 1 or more viewers".
+-- A film in 1 to 65,535; "well-formed plans admit 0 viewers".
 abbrev pub copyAccepted : Item → Bool
-copyAccepted x = inRange mostPlanFilm (x .film) && leb 1 (x .amount)
+copyAccepted x = inRange mostPlanFilm (x .film)
 
--- "At most k copies a disk, its films distinct and in 1 to 65,535, each with 1 or more viewers, at most L in sum."
+-- "At most k copies a disk, its films distinct and in 1 to 65,535", "at most L in sum."
 abbrev pub diskAccepted : Disk → List Item → Bool
 diskAccepted d copies =
     leb (length copies) (d .slots) && (distinctFilms copies && (every copyAccepted copies && leb (total copies) (d .load)))
@@ -49,11 +49,11 @@ abbrev pub ascendingAbove : ℕ → List Item → Bool
 ascendingAbove film [] = true
 ascendingAbove film (x ∷ xs) = ltb film (x .film) && ascendingAbove (x .film) xs
 
--- A film in 1 to 65,535 with an amount in 1 to 1,000,000.
+-- A film in 1 to 65,535 with an amount of 0 to 1,000,000.
 abbrev pub leftFilmAccepted : Item → Bool
-leftFilmAccepted x = inRange mostPlanFilm (x .film) && inRange mostDemand (x .amount)
+leftFilmAccepted x = inRange mostPlanFilm (x .film) && leb (x .amount) mostDemand
 
--- "At most 1,024 left films, strictly ascending, in range, each amount 1 to 1,000,000."
+-- "At most 1,024 left films, strictly ascending, in range", each amount 0 to 1,000,000.
 abbrev pub leftAccepted : List Item → Bool
 leftAccepted left = leb (length left) mostLeft && (ascendingAbove 0 left && every leftFilmAccepted left)
 

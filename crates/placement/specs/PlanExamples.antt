@@ -24,6 +24,8 @@ formedPlans =
     ∷ small (item 2 3 ∷ item 1 2 ∷ []) (item 1 1 ∷ item 65535 1000000 ∷ [])
     ∷ small (item 65535 5 ∷ []) (films 1 1024)
     ∷ plan (rackOf 64 32 65535) (replicate 64 (films 1 32)) []
+    ∷ small (item 7 0 ∷ item 8 5 ∷ []) (item 2 0 ∷ item 7 1 ∷ [])
+    ∷ small (item 7 5 ∷ item 8 0 ∷ []) (item 1 1 ∷ item 65535 0 ∷ [])
     ∷ []
 
 -- By rule: the rack, the lists of copies, the copies of a disk, what is left.
@@ -39,13 +41,18 @@ brokenPlans =
     ∷ small (item 7 1 ∷ item 7 1 ∷ []) []
     ∷ small (item 0 1 ∷ []) []
     ∷ small (item 65536 1 ∷ []) []
-    ∷ small (item 7 0 ∷ []) []
+    ∷ small (item 7 0 ∷ item 7 1 ∷ []) []
+    ∷ small (item 0 0 ∷ []) []
+    ∷ small (item 65536 0 ∷ []) []
+    ∷ small (item 7 0 ∷ item 8 0 ∷ item 9 0 ∷ []) []
     ∷ small (item 7 3 ∷ item 8 3 ∷ []) []
     ∷ small [] (films 1 1025)
     ∷ small [] (item 2 1 ∷ item 1 1 ∷ [])
     ∷ small [] (item 2 1 ∷ item 2 1 ∷ [])
     ∷ small [] (item 0 1 ∷ [])
     ∷ small [] (item 65536 1 ∷ [])
-    ∷ small [] (item 2 0 ∷ [])
+    ∷ small [] (item 2 0 ∷ item 2 1 ∷ [])
+    ∷ small [] (item 0 0 ∷ [])
+    ∷ small [] (item 65536 0 ∷ [])
     ∷ small [] (item 2 1000001 ∷ [])
     ∷ []

@@ -8,6 +8,7 @@ use Rattle.placement.specs.Tables.{Tables}
 use Rattle.placement.specs.Held.{copiesHeld, leftHeld}
 use Rattle.placement.specs.Planning.{Call, PlanSums, planning, tablesAfter, recordsIn}
 use Rattle.placement.specs.Promise.{Demand3}
+use Rattle.placement.specs.ShelfPromise.{ShelfPromise}
 
 -- A call, the lent tables at entry and at exit, and the numbers of the answer.
 pub record PlanPromise (call : Call) (entry exit : Tables) (answer : Numbers PlanSums) : Type 0 where
@@ -24,3 +25,7 @@ pub record PlanPromise (call : Call) (entry exit : Tables) (answer : Numbers Pla
       (answer .values .unserved)
   -- U is the sum over the left table
   pub left : answer .refusal ≡ 0 → total (leftHeld (answer .values .left) exit) ≡ answer .values .unserved
+  -- films of demand 0 are on the shelf or left, and the rest is the method's
+  pub shelf :
+      answer .refusal ≡ 0
+      → ShelfPromise (call .rack) (recordsIn call) (copiesHeld (call .rack) exit) (leftHeld (answer .values .left) exit)

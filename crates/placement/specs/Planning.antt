@@ -1,12 +1,13 @@
 -- What planning answers and what the lent tables hold afterwards, for every call.
 use Prim.Native.Nat.{ℕ}
-use mathlib.Core.List.{List, map}
+use mathlib.Core.List.{List, map, _++_}
 use lib.ListN.{length}
 use Rattle.refusal.specs.Verdict.{Verdict, given, unless, Numbers, answered, afterwards}
-use Rattle.placement.specs.Items.{Item, listOf}
+use Rattle.placement.specs.Items.{Item, listOf, byFilm}
 use Rattle.placement.specs.Rack.{Disk, rackAccepted}
 use Rattle.placement.specs.Records.{recordCount, recordsOf, shapeJudged, recordsJudged}
-use Rattle.placement.specs.Method.{placement, served, unserved, leftOf}
+use Rattle.placement.specs.Method.{placement, remaining, served, unserved}
+use Rattle.placement.specs.Shelf.{shelfFilms, shelved, unshelved}
 use Rattle.placement.specs.Tables.{Tables, entryOf, padded, roomFor, holding}
 use Rattle.placement.specs.Plan.{Plan}
 
@@ -37,12 +38,20 @@ verdict c t =
     (roomJudged (c .rack) (recordCount (c .list)) t
     (recordsJudged (c .list) (given tt))))
 
--- The plan of a call: the copies of each disk, and what is left by ascending film.
+-- The method's copies for a call.
+abbrev pub placedIn : Call → List (List Item)
+placedIn c = placement (c .rack) (listOf (recordsIn c))
+
+-- What is left of a call: the films of demand 0 that find no free slot, and what the method leaves.
+abbrev pub leftIn : Call → List Item
+leftIn c = unshelved (c .rack) (shelfFilms (recordsIn c)) (placedIn c) ++ remaining (c .rack) (listOf (recordsIn c))
+
+-- The plan of a call: the method's copies of each disk and the shelf copies behind them, and what is left by ascending film.
 abbrev pub planIn : Call → Plan
 planIn c = record {
   rack = c .rack;
-  copies = placement (c .rack) (listOf (recordsIn c));
-  left = leftOf (c .rack) (listOf (recordsIn c));
+  copies = shelved (c .rack) (shelfFilms (recordsIn c)) (placedIn c);
+  left = byFilm (leftIn c);
 }
 
 -- "The answer also gives S, U and the number of left films."

@@ -30,11 +30,10 @@ pub record RecordsAccepted (records : List Item) : Type 0 where
   pub distinct : Distinct records
   pub demanded : Each Demanded records
 
--- An entry of the method's list or of a plan: a film that a plan may hold, a number from 1 to `most`.
+-- An entry of the method's list or of a plan: a film that a plan may hold, a number up to `most`.
 pub record Entry (most : ℕ) (x : Item) : Type 0 where
   pub filmLeast : 1 ≤ x .film
   pub filmMost : x .film ≤ mostPlanFilm
-  pub amountLeast : 1 ≤ x .amount
   pub amountMost : x .amount ≤ most
 
 -- The windows of a series whose films are summed: up to the first that reaches the load.
