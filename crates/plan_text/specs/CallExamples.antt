@@ -28,12 +28,16 @@ pub record Writing : Type 0 where
 abbrev smallText : List ℕ
 smallText = textLines ("(rack 1 2 5)" ∷ "(disk 1 (7 4))" ∷ "(left (3 9))" ∷ "(served 4 9)" ∷ [])
 
--- Writes a text of 54 bytes into as many.
-abbrev writes : WriteCall → List ℕ → Writing
-writes c text = record {
+-- The text of a disk with a shelf copy, and of a film that is left with amount 0.
+abbrev shelfText : List ℕ
+shelfText = textLines ("(rack 1 2 5)" ∷ "(disk 1 (7 4) (8 0))" ∷ "(left (3 0))" ∷ "(served 4 0)" ∷ [])
+
+-- Writes a text of n bytes into as many.
+abbrev writes : ℕ → WriteCall → List ℕ → Writing
+writes n c text = record {
   asked = c;
-  room = replicate 54 1;
-  numbers = record { refusal = 0; second = 0; values = 54 };
+  room = replicate n 1;
+  numbers = record { refusal = 0; second = 0; values = n };
   after = text;
 }
 
@@ -53,7 +57,8 @@ good = asking (entry 7 4 ∷ 0 ∷ 77 ∷ []) (1 ∷ 77 ∷ []) 1
 -- Calls of writing.
 abbrev pub writings : List Writing
 writings =
-    writes good smallText
+    writes 54 good smallText
+    ∷ writes 60 (writeCall (rackOf 1 2 5) (tables (entry 7 4 ∷ entry 8 0 ∷ 77 ∷ []) (2 ∷ 77 ∷ []) (entry 3 0 ∷ 77 ∷ [])) 1) shelfText
     ∷ declines 11 53 good
     ∷ declines 10 9 (asking (entry 7 4 ∷ entry 8 0 ∷ 77 ∷ []) (1 ∷ 77 ∷ []) 1)
     ∷ declines 10 9 (asking (entry 7 4 ∷ entry 0 1 ∷ 77 ∷ []) (1 ∷ 77 ∷ []) 1)
@@ -75,12 +80,12 @@ pub record Taking : Type 0 where
   pub numbers : Numbers Told
   pub after : Tables
 
--- Reads the small text into tables.
-abbrev takes : Tables → Tables → Taking
-takes lent after = record {
-  text = smallText;
+-- Reads a text of one disk of two slots and load 5, which serves 4 and leaves one film, into tables.
+abbrev takes : List ℕ → ℕ → Tables → Tables → Taking
+takes text unserved lent after = record {
+  text = text;
   lent = lent;
-  numbers = record { refusal = 0; second = 0; values = told 1 2 5 4 9 1 };
+  numbers = record { refusal = 0; second = 0; values = told 1 2 5 4 unserved 1 };
   after = after;
 }
 
@@ -100,7 +105,8 @@ sevens copies counts left = tables (replicate copies 77) (replicate counts 77) (
 -- Calls of reading.
 abbrev pub takings : List Taking
 takings =
-    takes (sevens 3 2 3) (tables (entry 7 4 ∷ 0 ∷ 77 ∷ []) (1 ∷ 77 ∷ []) (entry 3 9 ∷ 77 ∷ 77 ∷ []))
+    takes smallText 9 (sevens 3 2 3) (tables (entry 7 4 ∷ 0 ∷ 77 ∷ []) (1 ∷ 77 ∷ []) (entry 3 9 ∷ 77 ∷ 77 ∷ []))
+    ∷ takes shelfText 0 (sevens 3 2 3) (tables (entry 7 4 ∷ entry 8 0 ∷ 77 ∷ []) (2 ∷ 77 ∷ []) (entry 3 0 ∷ 77 ∷ 77 ∷ []))
     ∷ leaves 7 0 smallText (sevens 1 2 3)
     ∷ leaves 7 0 smallText (sevens 3 0 3)
     ∷ leaves 7 0 smallText (sevens 3 2 0)

@@ -68,6 +68,8 @@ accepted =
     plan caseAText 3 4 6 16 2 2
     ∷ plan (textLines ("(rack 2 1 1)" ∷ "(disk 1 (7 1))" ∷ "(disk 2)" ∷ "(left)" ∷ "(served 1 0)" ∷ [])) 2 1 1 1 0 0
     ∷ plan (small ("(disk 1 (2 3) (1 2))" ∷ "(left (1 1) (65535 1000000))" ∷ "(served 5 1000001)" ∷ [])) 1 2 5 5 1000001 2
+    ∷ plan (small ("(disk 1 (7 0) (8 5))" ∷ "(left (2 0) (3 1))" ∷ "(served 5 1)" ∷ [])) 1 2 5 5 1 2
+    ∷ plan (small ("(disk 1 (8 0))" ∷ "(left (2 0))" ∷ "(served 0 0)" ∷ [])) 1 2 5 0 0 1
     ∷ []
 
 -- Texts whose first line is refused.
@@ -95,7 +97,9 @@ refusedAtLine2 =
     ∷ small ("(disk 2)" ∷ [])
     ∷ small ("(disk 10)" ∷ [])
     ∷ small ("(disk 1 (07 1))" ∷ [])
-    ∷ small ("(disk 1 (7 0))" ∷ [])
+    ∷ small ("(disk 1 (7 00))" ∷ [])
+    ∷ small ("(disk 1 (0 0))" ∷ [])
+    ∷ small ("(disk 1 (7 0) (7 1))" ∷ [])
     ∷ small ("(disk 1 (0 1))" ∷ [])
     ∷ small ("(disk 1 (65536 1))" ∷ [])
     ∷ small ("(disk 1 (4294967297 1))" ∷ [])
@@ -117,7 +121,8 @@ abbrev pub refusedLater : List Example
 refusedLater =
     refusedAt 3 (small ("(disk 1)" ∷ "(left (2 1) (1 1))" ∷ []))
     ∷ refusedAt 3 (small ("(disk 1)" ∷ "(left (2 1) (2 1))" ∷ []))
-    ∷ refusedAt 3 (small ("(disk 1)" ∷ "(left (2 0))" ∷ []))
+    ∷ refusedAt 3 (small ("(disk 1)" ∷ "(left (2 00))" ∷ []))
+    ∷ refusedAt 3 (small ("(disk 1)" ∷ "(left (0 0))" ∷ []))
     ∷ refusedAt 3 (small ("(disk 1)" ∷ "(left (2 1000001))" ∷ []))
     ∷ refusedAt 4 (small ("(disk 1 (7 5))" ∷ "(left)" ∷ "(served 4 0)" ∷ []))
     ∷ refusedAt 4 (small ("(disk 1 (7 5))" ∷ "(left)" ∷ "(served 05 0)" ∷ []))

@@ -1,4 +1,4 @@
-// The copies of one disk: films distinct and in range, each with viewers, and at most the disk's streams in sum.
+// The copies of one disk: films distinct and in range, and at most the disk's streams in sum.
 use crate::entry;
 use crate::sum;
 use placement::Slots;
@@ -12,14 +12,11 @@ ghost use Rattle.placement.specs.Rack.{disk};
 ghost use Rattle.placement.specs.Tables.{itemIn};
 ghost use Rattle.placement.specs.Plan.{copyAccepted, every, distinctFilms, diskAccepted};
 
-// Whether one copy has a film in range and a viewer.
+// Whether one copy has a film in range, with viewers or without.
 fn copy_accepted(copy: u64) -> bool
     ensures { λ r. ⌜ r ≡ copyAccepted (itemIn copy) ⌝ }
 {
-    if !entry::film_accepted(copy) {
-        return false;
-    }
-    1 <= placement::entry_amount(copy)
+    entry::film_accepted(copy)
 }
 
 // Whether every copy is accepted.

@@ -15,8 +15,7 @@ fn left_film_accepted(left: u64) -> bool
     if !entry::film_accepted(left) {
         return false;
     }
-    let amount = placement::entry_amount(left);
-    entry::in_range(placement::MOST_DEMAND, amount)
+    placement::entry_amount(left) <= placement::MOST_DEMAND
 }
 
 // Whether every left film is accepted.
