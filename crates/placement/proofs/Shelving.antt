@@ -84,7 +84,7 @@ each-unshelved P rack (x ∷ xs) layout all = go (someFreeSlot rack layout) (eac
     go false later = (all .0, later)
 
 -- Without a free slot the copies stay as they are.
-shelvedOne-full : (rack : List Disk) (x : Item) (layout : List (List Item)) → someFreeSlot rack layout ≡ false → shelvedOne rack x layout ≡ layout
+pub shelvedOne-full : (rack : List Disk) (x : Item) (layout : List (List Item)) → someFreeSlot rack layout ≡ false → shelvedOne rack x layout ≡ layout
 shelvedOne-full [] x layout full = refl
 shelvedOne-full (d ∷ ds) x [] full = refl
 shelvedOne-full (d ∷ ds) x (copies ∷ rest) full = go (hasFreeSlot d copies) full (shelvedOne-full ds x rest)

@@ -5,3 +5,4 @@ pub mod Search
 pub mod Copies
 pub mod Verdicts
 pub mod Plannable
+pub mod Shelf

@@ -6,6 +6,7 @@ mod fulfil; // fulfil.rt: the plan of a list that is not refused
 mod judge; // judge.rt: the refusals of planning
 mod key; // key.rt: a film with its amount as one number
 mod left; // left.rt: the left table
+mod shelf; // shelf.rt: shelf copies
 mod store; // store.rt: entries in a lent table
 mod window; // window.rt: the window of a disk
 mod worklist; // worklist.rt: the list of the method as ascending numbers

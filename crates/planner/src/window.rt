@@ -24,7 +24,7 @@ pub(crate) struct Found {
 }
 
 // The smaller of two numbers.
-fn smaller(a: usize, b: usize) -> usize
+pub(crate) fn smaller(a: usize, b: usize) -> usize
     ensures { λ r. ⌜ r ≡ min a b ⌝ }
 {
     if a < b {
