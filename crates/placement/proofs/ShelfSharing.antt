@@ -124,6 +124,23 @@ shelvedOne-loads (d ∷ ds) x (copies ∷ rest) none loads = go (hasFreeSlot d c
     go true later = (omega (arith, sumBy-append amountOf copies (x ∷ []), none, loads .0), loads .1)
     go false later = (loads .0, later)
 
+-- All disks serve as many viewers with shelf copies as without,
+pub shelved-served :
+    (rack : List Disk) (films : List Item) (layout : List (List Item)) → Each Unwanted films → served (shelved rack films layout) ≡ served layout
+shelved-served rack films layout none =
+    sym (together-served (shelved rack films layout))
+    ∙ shelved-kept amountOf rack films layout (unwanted-total films none)
+    ∙ together-served layout
+
+-- and each film has as many.
+shelved-viewers :
+    (f : ℕ) (rack : List Disk) (films : List Item) (layout : List (List Item)) → Each Unwanted films
+    → viewersOf f (shelved rack films layout) ≡ viewersOf f layout
+shelved-viewers f rack films layout none =
+    sym (together-viewers f (shelved rack films layout))
+    ∙ shelved-kept (amountIf f) rack films layout (unwanted-amount f films none)
+    ∙ together-viewers f layout
+
 -- A film of a list without demand: nobody wants it.
 abbrev pub Idle : List Item → Item → Type 0
 Idle demands x = Unwanted x × (amountFor (x .film) demands ≡ 0)
@@ -137,9 +154,9 @@ module _ {k : ℕ} {disks : List Disk} {demands : List Item} {s u : ℕ} where
     own = record {
       sameCopies = refl;
       withinLoads = shelvedOne-loads disks x layout (idle .0) (promised .own .withinLoads);
-      withinDemands = λ f. omega (arith, viewers f, promised .own .withinDemands f);
+      withinDemands = λ f. omega (arith, shelved-viewers f disks (x ∷ []) layout (idle .0, tt), promised .own .withinDemands f);
     };
-    ownServes = serves ∙ promised .ownServes;
+    ownServes = shelved-served disks (x ∷ []) layout (idle .0, tt) ∙ promised .ownServes;
     best = best;
     whole = promised .whole;
     share = promised .share;
@@ -147,21 +164,6 @@ module _ {k : ℕ} {disks : List Disk} {demands : List Item} {s u : ℕ} where
     allServed = promised .allServed;
   }
     where
-      none : Each Unwanted (x ∷ [])
-      none = (idle .0, tt)
-
-      viewers : (f : ℕ) → viewersOf f (shelvedOne disks x layout) ≡ viewersOf f layout
-      viewers f =
-          sym (together-viewers f (shelvedOne disks x layout))
-          ∙ shelved-kept (amountIf f) disks (x ∷ []) layout (unwanted-amount f (x ∷ []) none)
-          ∙ together-viewers f layout
-
-      serves : served (shelvedOne disks x layout) ≡ served layout
-      serves =
-          sym (together-served (shelvedOne disks x layout))
-          ∙ shelved-kept amountOf disks (x ∷ []) layout (unwanted-total (x ∷ []) none)
-          ∙ together-served layout
-
       best : (shares : List (List Item)) → Sharing disks demands (shelvedOne disks x layout) shares → served shares ≤ s
       best shares sharing =
           omega (

@@ -18,6 +18,8 @@ pub mod RackRanges
 pub mod WrittenTo
 pub mod FilledTo
 pub mod ShelvedTo
+pub mod ShelfTables
+pub mod LeftRun
 pub mod LeftFilms
 pub mod KeysAgain
 pub mod Answered
