@@ -73,7 +73,7 @@ impl Parsed {
         let mut load = 0;
         while let Some((film, viewers)) = cursor.pair_or_end()? {
             let last = holder.get_mut(film as usize)?;
-            if film == 0 || viewers == 0 || *last == disk as u8 {
+            if film == 0 || *last == disk as u8 {
                 return None;
             }
             *last = disk as u8;
@@ -92,7 +92,7 @@ impl Parsed {
         cursor.bytes(b"(left")?;
         let mut previous = 0;
         while let Some((film, amount)) = cursor.pair_or_end()? {
-            if film <= previous || film > LAST_FILM || amount == 0 || amount > MOST_DEMAND {
+            if film <= previous || film > LAST_FILM || amount > MOST_DEMAND {
                 return None;
             }
             previous = film;

@@ -58,7 +58,7 @@ fn judge(rack: Rack, tables: &TablesView) -> Option<Sums> {
         for &copy in copies {
             let (film, viewers) = (copy.film(), copy.amount());
             let last = holder.get_mut(film as usize)?;
-            if film == 0 || viewers == 0 || *last == disk {
+            if film == 0 || *last == disk {
                 return None;
             }
             *last = disk;
@@ -81,7 +81,7 @@ fn judge_left(tables: &TablesView, sums: &mut Sums) -> Option<()> {
     let mut previous = 0;
     for &entry in tables.left {
         let (film, amount) = (entry.film(), entry.amount());
-        if film <= previous || film > LAST_FILM || amount == 0 || amount > MOST_DEMAND {
+        if film <= previous || film > LAST_FILM || amount > MOST_DEMAND {
             return None;
         }
         previous = film;

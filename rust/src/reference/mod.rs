@@ -1,6 +1,6 @@
 //! Plain Rust with the library's results, written apart from it.
 //!
-//! `planner`, `writer` and `reader` follow the words of document 01 and are slow.
+//! `planner`, `writer` and `reader` follow the words of documents 01 and 02 and are slow.
 //! `rolling`, `fast_writer` and `fast_reader` are their fast rivals for the benchmark.
 
 pub mod fast_reader;

@@ -23,22 +23,20 @@ fn is_film(film: u32) -> bool {
     (1..=LAST_FILM).contains(&film)
 }
 
-/// At most k copies, films distinct and in range, each with viewers, at most L in sum.
+/// At most k copies, films distinct and in range, at most L viewers in sum. A copy may have 0.
 pub fn disk_is_well_formed(rack: Rack, copies: &[Pair]) -> bool {
     let distinct = |(at, copy): (usize, &Pair)| copies[..at].iter().all(|c| c.0 != copy.0);
     copies.len() <= rack.slots.0 as usize
-        && copies.iter().all(|c| is_film(c.0) && c.1 >= 1)
+        && copies.iter().all(|c| is_film(c.0))
         && copies.iter().enumerate().all(distinct)
         && total(copies) <= u64::from(rack.streams.0)
 }
 
-/// At most 1,024 films, strictly ascending and in range, amounts 1 to 1,000,000.
+/// At most 1,024 films, strictly ascending and in range, amounts 0 to 1,000,000.
 pub fn left_is_well_formed(left: &[Pair]) -> bool {
     left.len() <= MOST_RECORDS
         && left.windows(2).all(|two| two[0].0 < two[1].0)
-        && left
-            .iter()
-            .all(|l| is_film(l.0) && (1..=MOST_DEMAND).contains(&l.1))
+        && left.iter().all(|l| is_film(l.0) && l.1 <= MOST_DEMAND)
 }
 
 impl Plan {

@@ -1,4 +1,5 @@
-//! A plain planner, sentence by sentence from document 01. It sums every window anew.
+//! A plain planner, sentence by sentence from document 01, and from document 02 for shelf
+//! copies. It sums every window anew.
 
 use std::ops::Range;
 
@@ -21,7 +22,8 @@ pub fn plan(rack: Rack, list: &[u8], mut tables: LentTables) -> Planned {
         Ok(demands) => demands,
         Err(refusal) => return refusal.into(),
     };
-    let plan = by_method(rack, &demands);
+    let mut plan = by_method(rack, &demands);
+    store_shelf_copies(&mut plan, &demands);
     tables.left[..demands.len()].fill(Entry::default());
     plan.store(&mut tables);
     Planned {
@@ -87,6 +89,19 @@ fn by_method(rack: Rack, demands: &[Pair]) -> Plan {
     list.sort_by_key(|wanted| wanted.film);
     let left = list.iter().map(|w| (w.film, w.amount as u32)).collect();
     Plan { rack, disks, left }
+}
+
+/// Takes the films of demand 0 in ascending number. Each goes to the lowest disk with a free
+/// slot, as a copy with 0 viewers after its other copies. One with no free slot is left with 0.
+fn store_shelf_copies(plan: &mut Plan, demands: &[Pair]) {
+    let slots = plan.rack.slots.0 as usize;
+    let mut unwanted: Vec<Pair> = demands.iter().copied().filter(|d| d.1 == 0).collect();
+    unwanted.sort();
+    for copy in unwanted {
+        let lowest = plan.disks.iter_mut().find(|copies| copies.len() < slots);
+        lowest.unwrap_or(&mut plan.left).push(copy);
+    }
+    plan.left.sort();
 }
 
 /// Takes one disk's copies off the list.

@@ -1,4 +1,5 @@
-//! Cases A to I of document 01, with the values that stand there.
+//! Cases A to I of document 01, with the values that stand there but for G, which document 02
+//! changes, and further cases of shelf copies, worked out by hand.
 
 use jugfjord::ffi::{Planned, ReadPlan, Written};
 use jugfjord::rack::{records, Rack, Slots, Streams};
@@ -163,9 +164,10 @@ fn f_one_film_fills_both_disks() {
 }
 
 #[test]
-fn g_a_film_of_demand_0_has_no_copy() {
+fn g_a_film_of_demand_0_has_a_shelf_copy() {
     let list = [(4, 0), (1, 2), (2, 3)];
-    expect(rack(1, 4, 9), &list, &[&[(1, 2), (2, 3)]], &[], (5, 0));
+    let disks: [&[Pair]; 1] = [&[(1, 2), (2, 3), (4, 0)]];
+    expect(rack(1, 4, 9), &list, &disks, &[], (5, 0));
 }
 
 #[test]
@@ -177,4 +179,41 @@ fn h_ties_go_by_film_number() {
 #[test]
 fn i_a_repeated_film_is_refused() {
     expect_refused(rack(1, 1, 5), &[(5, 3), (5, 3)], 6, 2);
+}
+
+#[test]
+fn a_film_of_demand_0_without_a_free_slot_is_left() {
+    let list = [(7, 5), (2, 0)];
+    expect(rack(1, 1, 5), &list, &[&[(7, 5)]], &[(2, 0)], (5, 0));
+}
+
+#[test]
+fn shelf_copies_fill_the_lowest_disk_first() {
+    let list = [(3, 0), (9, 5), (1, 0), (2, 0)];
+    let disks: [&[Pair]; 2] = [&[(9, 5), (1, 0)], &[(2, 0), (3, 0)]];
+    expect(rack(2, 2, 5), &list, &disks, &[], (5, 0));
+}
+
+#[test]
+fn a_full_disk_gets_no_shelf_copy() {
+    let list = [(4, 2), (5, 3), (6, 4), (1, 0)];
+    let disks: [&[Pair]; 2] = [&[(4, 2), (5, 3)], &[(6, 4), (1, 0)]];
+    expect(rack(2, 2, 5), &list, &disks, &[], (9, 0));
+}
+
+#[test]
+fn films_of_demand_0_alone_go_by_film_number() {
+    let disks: [&[Pair]; 2] = [&[(1, 0)], &[(2, 0)]];
+    let list = [(3, 0), (1, 0), (2, 0)];
+    expect(rack(2, 1, 5), &list, &disks, &[(3, 0)], (0, 0));
+    let list = [(8, 0), (6, 0), (4, 0)];
+    let left = [(6, 0), (8, 0)];
+    expect(rack(1, 1, 5), &list, &[&[(4, 0)]], &left, (0, 0));
+}
+
+#[test]
+fn left_films_of_amount_0_stand_among_the_others() {
+    let list = [(9, 2), (5, 0), (3, 5), (7, 1)];
+    let left = [(3, 5), (5, 0), (9, 2)];
+    expect(rack(1, 1, 1), &list, &[&[(7, 1)]], &left, (1, 7));
 }

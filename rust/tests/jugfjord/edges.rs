@@ -1,10 +1,11 @@
-//! The edges that document 01 names besides its cases.
+//! The edges that document 01 names besides its cases, and those of 0 viewers and amount 0.
 
+use jugfjord::ffi::ReadPlan;
 use jugfjord::rack::{records, Rack, Slots, Streams};
 use jugfjord::tables::{Entry, Tables};
 
 use crate::cases::expect_refused;
-use crate::subjects::{PLANNERS, READERS, WRITERS};
+use crate::subjects::{JUDGES, PLANNERS, READERS, WRITERS};
 
 fn rack_of(disks: u32) -> Rack {
     Rack::new(disks, Slots(1), Streams(1))
@@ -46,14 +47,19 @@ fn records_1024_pass_and_1025_do_not() {
     expect_refused(rack_of(1), &list, 3, 0);
 }
 
+/// Asserts that each reader refuses the text at this line.
+fn expect_wrong_line(text: &str, line: u32) {
+    for (name, reader) in READERS {
+        let mut tables = Tables::for_plan(rack_of(1), 0);
+        let read = reader(text.as_bytes(), tables.lend());
+        assert_eq!((read.number, read.second), (9, line), "{name}: {text:?}");
+    }
+}
+
 #[test]
 fn texts_that_are_none_are_refused_at_line_1() {
     for text in ["", "\n", "(refused 1)\n", "(rack 1 1 1)"] {
-        for (name, reader) in READERS {
-            let mut tables = Tables::for_plan(rack_of(1), 0);
-            let read = reader(text.as_bytes(), tables.lend());
-            assert_eq!((read.number, read.second), (9, 1), "{name}: {text:?}");
-        }
+        expect_wrong_line(text, 1);
     }
 }
 
@@ -72,20 +78,73 @@ fn the_wrong_line_is_named() {
         ("(rack 4294967297 1 1)\n(disk 1)\n(left)\n(served 0 0)\n", 1),
     ];
     for (text, line) in texts {
-        for (name, reader) in READERS {
-            let mut tables = Tables::for_plan(rack_of(1), 0);
-            let read = reader(text.as_bytes(), tables.lend());
-            assert_eq!((read.number, read.second), (9, line), "{name}: {text:?}");
-        }
+        expect_wrong_line(text, line);
     }
+}
+
+#[test]
+fn texts_with_0_viewers_and_amount_0_are_read() {
+    let text = "(rack 1 3 5)\n(disk 1 (7 0) (3 5))\n(left (2 0) (4 9))\n(served 5 9)\n";
+    let answer = ReadPlan {
+        disks: 1,
+        slots: 3,
+        streams: 5,
+        left: 2,
+        served: 5,
+        unserved: 9,
+        ..ReadPlan::default()
+    };
+    for (name, reader) in READERS {
+        let mut tables = Tables::for_plan(Rack::new(1, Slots(3), Streams(5)), 2);
+        assert_eq!(reader(text.as_bytes(), tables.lend()), answer, "{name}");
+        let copies = [Entry::new(7, 0), Entry::new(3, 5), Entry::default()];
+        assert_eq!(tables.copies, copies, "{name}");
+        assert_eq!(tables.counts, [2], "{name}");
+        assert_eq!(tables.left, [Entry::new(2, 0), Entry::new(4, 9)], "{name}");
+    }
+    for (name, judge) in JUDGES {
+        assert_eq!(judge(text.as_bytes()), answer, "{name}");
+    }
+}
+
+/// The copies and left films of a text with sums of 0, and the line that is wrong in it.
+const WRONG_WITH_0: [(&str, &str, u32); 11] = [
+    (" (0 0)", "", 2),
+    (" (65536 0)", "", 2),
+    (" (7 0) (7 0)", "", 2),
+    (" (7 0) (8 0) (9 0)", "", 2),
+    (" (7 00)", "", 2),
+    (" (7)", "", 2),
+    ("", " (0 0)", 3),
+    ("", " (65536 0)", 3),
+    ("", " (2 0) (2 0)", 3),
+    ("", " (2 0) (1 0)", 3),
+    (" (7 0)", " (2 00)", 3),
+];
+
+#[test]
+fn texts_that_are_wrong_beside_0_are_refused() {
+    for (copies, left, line) in WRONG_WITH_0 {
+        let text = format!("(rack 1 2 5)\n(disk 1{copies})\n(left{left})\n(served 0 0)\n");
+        expect_wrong_line(&text, line);
+    }
+    let text = "(rack 1 2 5)\n(disk 1 (7 0))\n(left (2 1000001))\n(served 0 1000001)\n";
+    expect_wrong_line(text, 3);
+    let text = "(rack 1 2 5)\n(disk 1 (7 0))\n(left (2 0))\n(served 0 1)\n";
+    expect_wrong_line(text, 4);
 }
 
 /// Asserts how each writer answers one disk of two places, the first used, and one left film.
 fn expect_written(places: [Entry; 2], left: Entry, number: u32) {
+    expect_copies_written(1, places, left, number);
+}
+
+/// Asserts how each writer answers one disk of two places, so many used, and one left film.
+fn expect_copies_written(used: u32, places: [Entry; 2], left: Entry, number: u32) {
     let rack = Rack::new(1, Slots(2), Streams(65_535));
     let tables = Tables {
         copies: places.to_vec(),
-        counts: vec![1],
+        counts: vec![used],
         left: vec![left],
     };
     for (name, writer) in WRITERS {
@@ -102,7 +161,7 @@ fn all_bits_of_an_entry_count() {
         expect_written([Entry::new(film, 4), unused], left, 10);
         expect_written([copy, unused], Entry::new(film, 9), 10);
     }
-    for amount in [0, 1 << 20 | 4, 1 << 31 | 4, u32::MAX] {
+    for amount in [1 << 20 | 4, 1 << 31 | 4, u32::MAX] {
         expect_written([Entry::new(7, amount), unused], left, 10);
         expect_written([copy, unused], Entry::new(3, amount), 10);
     }
@@ -110,6 +169,22 @@ fn all_bits_of_an_entry_count() {
         expect_written([copy, Entry::new(bit, 0)], left, 10);
         expect_written([copy, Entry::new(0, bit)], left, 10);
     }
+}
+
+#[test]
+fn copies_of_0_viewers_and_left_films_of_amount_0_are_written() {
+    let (copy, unused, left) = (Entry::new(7, 0), Entry::default(), Entry::new(3, 0));
+    expect_written([copy, unused], left, 0);
+    expect_copies_written(2, [copy, Entry::new(8, 0)], left, 0);
+    expect_copies_written(2, [copy, Entry::new(8, 65_535)], left, 0);
+    // Film 0, a film twice, and a place that is not used.
+    expect_written([unused, unused], left, 10);
+    expect_copies_written(2, [copy, unused], left, 10);
+    expect_written([copy, unused], unused, 10);
+    expect_copies_written(2, [copy, copy], left, 10);
+    expect_copies_written(2, [copy, Entry::new(7, 4)], left, 10);
+    expect_written([copy, copy], left, 10);
+    expect_copies_written(0, [copy, unused], left, 10);
 }
 
 #[test]

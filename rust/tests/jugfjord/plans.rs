@@ -19,25 +19,36 @@ pub fn good(dice: &mut Dice) -> Plan {
     Plan { rack, disks, left }
 }
 
-/// Copies with at most the load in sum, and often just the load.
+/// Copies with at most the load in sum, and often just the load. Some have no viewers, in any
+/// place of the disk.
 fn disk(dice: &mut Dice, rack: Rack) -> Vec<Pair> {
-    let most = rack.slots.0.min(rack.streams.0);
-    let count = dice.within(0, most);
-    let mut room = rack.streams.0;
-    let mut copies = Vec::new();
-    for (film, after) in films(dice, count as usize)
+    let count = dice.within(0, rack.slots.0);
+    let most = count.min(rack.streams.0);
+    let least = dice.pick(&[0, most]);
+    let watched = dice.within(least, most);
+    let mut viewers = viewers(dice, watched, rack.streams.0);
+    viewers.resize(count as usize, 0);
+    dice.shuffle(&mut viewers);
+    films(dice, count as usize)
         .into_iter()
-        .zip((0..count).rev())
-    {
-        let viewers = match dice.below(4) {
+        .zip(viewers)
+        .collect()
+}
+
+/// The viewers of so many copies, each with some, at most the load in sum.
+fn viewers(dice: &mut Dice, count: u32, load: u32) -> Vec<u32> {
+    let mut room = load;
+    let mut viewers = Vec::new();
+    for after in (0..count).rev() {
+        let some = match dice.below(4) {
             0 => 1,
             1 => room - after,
-            _ => dice.within(1, (room - after).min(2 * rack.streams.0 / count + 1)),
+            _ => dice.within(1, (room - after).min(2 * load / count + 1)),
         };
-        room -= viewers;
-        copies.push((film, viewers));
+        room -= some;
+        viewers.push(some);
     }
-    copies
+    viewers
 }
 
 /// So many left films in ascending order.
@@ -45,9 +56,10 @@ fn left(dice: &mut Dice, count: usize) -> Vec<Pair> {
     let mut films = films(dice, count);
     films.sort_unstable();
     let mut amount = || match dice.below(8) {
-        0 => 1,
-        1 => MOST_DEMAND,
-        _ => dice.within(1, MOST_DEMAND),
+        0 => 0,
+        1 => 1,
+        2 => MOST_DEMAND,
+        _ => dice.within(0, MOST_DEMAND),
     };
     films.into_iter().map(|film| (film, amount())).collect()
 }
@@ -56,20 +68,21 @@ fn left(dice: &mut Dice, count: usize) -> Vec<Pair> {
 pub type Wrong = fn(&mut Dice, &mut Plan) -> Option<()>;
 
 /// Wrong plans that still fit the tables of their rack.
-pub const WRONG: [(&str, Wrong); 11] = [
+pub const WRONG: [(&str, Wrong); 12] = [
     ("film of a copy out of range", |dice, plan| {
         let (film, _) = copy(dice, plan)?;
         *film = dice.pick(&[0, LAST_FILM + 1, *film + 65_536, 1 << 31, u32::MAX]);
         Some(())
     }),
-    ("film twice on a disk", |dice, plan| {
-        let copies = &mut *plan.disks.iter_mut().find(|copies| copies.len() >= 2)?;
-        let last = copies.len() - 1;
-        copies[last].0 = copies[dice.below(last)].0;
+    ("film 0 without viewers", |dice, plan| {
+        *copy(dice, plan)? = (0, 0);
         Some(())
     }),
-    ("copy without viewers", |dice, plan| {
-        copy(dice, plan)?.1 = 0;
+    ("film twice on a disk", |dice, plan| {
+        repeat_film(dice, plan).map(|_| ())
+    }),
+    ("film twice on a disk, without viewers", |dice, plan| {
+        repeat_film(dice, plan)?.1 = 0;
         Some(())
     }),
     ("one viewer above the load", |dice, plan| {
@@ -96,7 +109,7 @@ pub const WRONG: [(&str, Wrong); 11] = [
             Some(last) if dice.one_in(2) => {
                 last.0 = dice.pick(&[LAST_FILM + 1, last.0 + 65_536, u32::MAX])
             }
-            _ => first.0 = 0,
+            _ => *first = (0, dice.pick(&[0, first.1])),
         }
         Some(())
     }),
@@ -113,7 +126,7 @@ pub const WRONG: [(&str, Wrong); 11] = [
     ("left amount out of range", |dice, plan| {
         let at = dice.below(Some(plan.left.len()).filter(|&n| n > 0)?);
         let amount = &mut plan.left[at].1;
-        *amount = dice.pick(&[0, MOST_DEMAND + 1, *amount | 1 << 31, u32::MAX]);
+        *amount = dice.pick(&[MOST_DEMAND + 1, *amount | 1 << 31, u32::MAX]);
         Some(())
     }),
     ("1,025 left films", |dice, plan| {
@@ -129,13 +142,22 @@ fn copy<'a>(dice: &mut Dice, plan: &'a mut Plan) -> Option<&'a mut Pair> {
     Some(&mut plan.disks[at][dice.below(count)])
 }
 
+/// Some disk's last copy, whose film is now that of another copy there.
+fn repeat_film<'a>(dice: &mut Dice, plan: &'a mut Plan) -> Option<&'a mut Pair> {
+    let copies = plan.disks.iter_mut().find(|copies| copies.len() >= 2)?;
+    let (last, others) = copies.split_last_mut()?;
+    last.0 = others[dice.below(others.len())].0;
+    Some(last)
+}
+
 /// Wrong plans that only a text can show.
 pub const WRONG_SHAPE: [(&str, Wrong); 4] = [
     ("more copies than slots", |dice, plan| {
         let slots = plan.rack.slots.0;
         plan.rack.streams.0 = plan.rack.streams.0.max(MOST_SLOTS + 1);
+        let viewers = dice.pick(&[0, 1]);
         let copies = films(dice, slots as usize + 1).into_iter();
-        *plan.disks.last_mut()? = copies.map(|film| (film, 1)).collect();
+        *plan.disks.last_mut()? = copies.map(|film| (film, viewers)).collect();
         Some(())
     }),
     ("a disk too few", |_, plan| plan.disks.pop().map(|_| ())),
