@@ -32,9 +32,9 @@ const SHORT_TEXTS: [&str; 5] = [
 (disk 7)
 (disk 8)
 (disk 9)
-(disk 10 (10 1) (11 1) (12 1))
-(left (9 5) (10 1000000))
-(served 73 1000005)
+(disk 10 (10 0) (11 1) (12 0))
+(left (9 0) (10 1000000))
+(served 71 1000000)
 ",
 ];
 
@@ -74,6 +74,8 @@ fn readers_agree_on_damage_at_every_byte() {
         ("text cut", 700),
         ("byte swapped with the next", 700),
         ("accepted", 1_000),
+        ("accepted with 0 viewers", 100),
+        ("accepted with amount 0", 100),
         ("line of the rack", 10_000),
         ("line of a disk", 10_000),
         ("line of the left films", 10_000),

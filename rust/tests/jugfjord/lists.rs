@@ -45,7 +45,7 @@ pub fn films(dice: &mut Dice, count: usize) -> Vec<u32> {
 /// Makes so many demands for a rack.
 type Demands = fn(&mut Dice, Rack, usize) -> Vec<u32>;
 
-pub const KINDS: [(&str, Demands); 6] = [
+pub const KINDS: [(&str, Demands); 7] = [
     ("equal demands", |dice, rack, count| {
         vec![dice.within(0, rack.streams.0 * 2); count]
     }),
@@ -58,6 +58,7 @@ pub const KINDS: [(&str, Demands); 6] = [
     ("large demands", |dice, _, count| {
         drawn(dice, count, MOST_DEMAND)
     }),
+    ("demands of 0", |_, _, count| vec![0; count]),
 ];
 
 fn drawn(dice: &mut Dice, count: usize, most: u32) -> Vec<u32> {
@@ -98,7 +99,18 @@ fn equal_remainders(dice: &mut Dice, rack: Rack, count: usize) -> Vec<u32> {
     demands
 }
 
-/// A list that planning accepts, of one kind of demands, with tables that hold its plan.
+/// Sets some demands to 0: none of them, few, half or most.
+fn set_to_zero(dice: &mut Dice, demands: &mut [u32]) {
+    let eighths = dice.pick(&[0, 0, 1, 4, 7]);
+    for demand in demands {
+        if dice.below(8) < eighths {
+            *demand = 0;
+        }
+    }
+}
+
+/// A list that planning accepts, of one kind of demands but for some films of demand 0, with
+/// tables that hold its plan.
 pub fn good(dice: &mut Dice, kind: Demands) -> (Case, Need) {
     let rack = rack(dice);
     let count = match dice.below(60) {
@@ -107,7 +119,8 @@ pub fn good(dice: &mut Dice, kind: Demands) -> (Case, Need) {
         2..=14 => dice.below(4),
         _ => dice.below(40),
     };
-    let demands = kind(dice, rack, count);
+    let mut demands = kind(dice, rack, count);
+    set_to_zero(dice, &mut demands);
     let list: Vec<_> = films(dice, count).into_iter().zip(demands).collect();
     let need = Need::new(rack, count);
     let case = Case {

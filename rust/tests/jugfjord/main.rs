@@ -12,6 +12,7 @@ mod planning;
 mod plans;
 mod reading;
 mod refusals;
+mod shelf;
 mod subjects;
 mod tally;
 mod writing;

@@ -11,6 +11,7 @@ use crate::damage::{fill_up, DAMAGES, LENGTHS};
 use crate::dice::Dice;
 use crate::guarded::{GuardedTables, Need};
 use crate::plans::{good, WRONG, WRONG_SHAPE};
+use crate::shelf::Shelf;
 use crate::subjects::{JUDGES, READERS, WRITERS};
 use crate::tally::Tally;
 
@@ -43,6 +44,8 @@ fn readers_agree_on_valid_and_damaged_texts() {
         ("line behind", 5_000),
         ("65,536 bytes", 100),
         ("65,537 bytes", 100),
+        ("accepted with 0 viewers", 20_000),
+        ("accepted with amount 0", 10_000),
     ];
     least.extend(DAMAGES.map(|(name, _)| (name, 5_000)));
     least.extend(WRONG.map(|(name, _)| (name, 50)));
@@ -104,7 +107,11 @@ pub fn check(case: &Case, tally: &mut Tally) {
     tally.answer(read.number);
     tally_line(case, &read, tally);
     match read.number {
-        0 => write_back(case, &read, &after),
+        0 => {
+            let rack = Rack::new(read.disks, Slots(read.slots), Streams(read.streams));
+            write_back(case, rack, read.left, &after);
+            Shelf::of(rack, &after.view(), read.left).tally(tally);
+        }
         _ => assert_eq!(after, case.tables),
     }
 }
@@ -137,12 +144,11 @@ fn judge(case: &Case, read: &ReadPlan) {
 
 /// Asserts that the rest of the tables is untouched, and that each writer makes the text again
 /// from what was read.
-fn write_back(case: &Case, read: &ReadPlan, after: &GuardedTables) {
-    let rack = Rack::new(read.disks, Slots(read.slots), Streams(read.streams));
-    Need::new(rack, read.left as usize).assert_rest_same(&case.tables, after);
+fn write_back(case: &Case, rack: Rack, left: u32, after: &GuardedTables) {
+    Need::new(rack, left as usize).assert_rest_same(&case.tables, after);
     for (name, writer) in WRITERS {
         let mut text = vec![0; case.text.len()];
-        let written = writer(rack, after.view(), read.left, &mut text);
+        let written = writer(rack, after.view(), left, &mut text);
         assert_eq!(written.number, 0, "{name}");
         assert_eq!(written.length, text.len() as u64, "{name}");
         assert!(text == case.text, "{name}");

@@ -10,6 +10,7 @@ use crate::dice::Dice;
 use crate::guarded::{Guarded, GuardedTables, Need};
 use crate::lists::bad_rack;
 use crate::plans::{good, WRONG};
+use crate::shelf::Shelf;
 use crate::subjects::WRITERS;
 use crate::tally::Tally;
 
@@ -31,6 +32,9 @@ fn writers_agree_on_right_and_wrong_plans() {
         let (case, expected) = random_case(&mut dice, &mut tally);
         let written = compare(&case);
         tally.answer(written.number);
+        if written.number == 0 {
+            Shelf::of(case.rack, &case.tables.view(), case.left).tally(&mut tally);
+        }
         if let Some(number) = expected {
             assert_eq!(written.number, number);
         }
@@ -42,6 +46,8 @@ fn writers_agree_on_right_and_wrong_plans() {
         ("refused 10", 20_000),
         ("refused 11", 10_000),
         ("space one byte short", 5_000),
+        ("accepted with 0 viewers", 10_000),
+        ("accepted with amount 0", 5_000),
     ];
     least.extend(WRONG.map(|(name, _)| (name, 50)));
     least.extend(WRONG_TABLES.map(|(name, _)| (name, 1_000)));
