@@ -6,6 +6,7 @@ mod folder;
 mod help;
 mod list_errors;
 mod list_forms;
+mod pages;
 mod random_lists;
 mod refusals;
 mod showing;

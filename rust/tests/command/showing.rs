@@ -1,12 +1,12 @@
 //! Plans for people: whole pages, and random plans taken back from their pages.
 
-use std::collections::BTreeMap;
-
-use jugfjord::reference::plan::{total, Plan};
+use jugfjord::reference::plan::Plan;
+use jugfjord::reference::reader::plan_of;
 use jugfjord::reference::writer::text_of;
 
 use crate::dice::Dice;
 use crate::folder::{rack, Folder};
+use crate::pages::assert_page_is_of;
 use crate::plans::good;
 use crate::terminal::printed_on_terminal;
 
@@ -48,29 +48,60 @@ fn a_small_plan_is_shown() {
     assert_eq!(shown.printed(), SMALL_PAGE);
 }
 
+/// The same plan, with film 120 and a copy of film 12 that nobody watches, and without a slot for
+/// film 121.
+fn plan_with_shelf() -> Plan {
+    Plan {
+        disks: vec![vec![(7, 5), (12, 35)], vec![(12, 0), (7, 9), (120, 0)]],
+        left: vec![(12, 1), (121, 0), (1_000, 30)],
+        ..small_plan()
+    }
+}
+
+const PAGE_WITH_SHELF: &str = "\
+2 disks, each with 3 slots and 40 streams
+
+film  served     left  disk:viewers
+   7      14        0  1:5      2:9
+  12      35        1  1:35     2:shelf
+ 120       0        0  2:shelf
+ 121       0  no slot  none
+1000       0       30  none
+
+disk  slots used  streams used
+   1      2 of 3      40 of 40  [####################]
+   2      3 of 3       9 of 40  [####................]
+
+served 49 of 80 viewers, 61.25 %; 31 viewers of 2 films are left
+nobody is expected to watch 2 shelf films: 1 stored, 1 without a slot
+";
+
+#[test]
+fn a_plan_with_shelf_films_is_shown() {
+    assert_eq!(page(&plan_with_shelf()), PAGE_WITH_SHELF);
+}
+
 #[test]
 fn bold_and_colour_are_for_terminals_alone() {
-    let folder = Folder::with("plan.txt", text_of(&small_plan()));
+    let folder = Folder::with("plan.txt", text_of(&plan_with_shelf()));
     let shown = printed_on_terminal(folder.command(&["show", "plan.txt"]));
-    let bold = [
-        "2 disks, each with 3 slots and 40 streams",
-        "film  served  left  disk:viewers",
-    ];
-    for line in bold {
-        assert!(
-            shown.contains(&format!("\x1b[1m{line}\x1b[0m\n")),
-            "{shown:?}"
-        );
-    }
+    let has_line = |style: u32, line: &str| {
+        let styled = format!("\x1b[{style}m{line}\x1b[0m\n");
+        assert!(shown.contains(&styled), "{shown:?}");
+    };
+    has_line(1, "2 disks, each with 3 slots and 40 streams");
+    has_line(1, "film  served     left  disk:viewers");
+    has_line(33, "  12      35        1  1:35     2:shelf");
+    has_line(33, " 121       0  no slot  none");
     assert!(
-        shown.contains("\x1b[33m  12      35     1  1:35\x1b[0m\n"),
+        shown.contains("\n 120       0        0  2:shelf\n"),
         "{shown:?}"
     );
     let styles = ["\x1b[0m", "\x1b[1m", "\x1b[33m"];
     let plain = styles
         .iter()
         .fold(shown, |text, style| text.replace(style, ""));
-    assert_eq!(plain, SMALL_PAGE);
+    assert_eq!(plain, PAGE_WITH_SHELF);
 }
 
 #[test]
@@ -184,6 +215,65 @@ fn sums_that_are_too_long_for_a_line_take_two() {
     }
 }
 
+/// The lines of a plan text behind its rack, and what is said below the tables.
+const CLOSINGS: [(&str, &str); 6] = [
+    (
+        "(disk 1 (7 0))\n(disk 2 (8 0))\n(left)\n(served 0 0)\n",
+        "no film has viewers, and none is left\n\
+        nobody is expected to watch 2 shelf films: 2 stored, 0 without a slot\n",
+    ),
+    (
+        "(disk 1 (7 0) (8 0))\n(disk 2 (9 0) (10 0))\n(left (11 0))\n(served 0 0)\n",
+        "no film has viewers\n\
+        nobody is expected to watch 5 shelf films: 4 stored, 1 without a slot\n",
+    ),
+    (
+        "(disk 1 (7 5))\n(disk 2)\n(left (2 0))\n(served 5 0)\n",
+        "served 5 of 5 viewers, 100.00 %\n\
+        nobody is expected to watch 1 shelf film: 0 stored, 1 without a slot\n",
+    ),
+    (
+        "(disk 1 (7 1))\n(disk 2 (5 0))\n(left (3 6) (4 0) (9 1))\n(served 1 7)\n",
+        "served 1 of 8 viewers, 12.50 %; 7 viewers of 2 films are left\n\
+        nobody is expected to watch 2 shelf films: 1 stored, 1 without a slot\n",
+    ),
+    // Copies without viewers of films that are watched or left, and 0 left of films with a copy.
+    (
+        "(disk 1 (7 5))\n(disk 2 (7 0) (8 0))\n(left (7 0) (8 3))\n(served 5 3)\n",
+        "served 5 of 8 viewers, 62.50 %; 3 viewers of 1 film are left\n",
+    ),
+    (
+        "(disk 1 (7 0))\n(disk 2 (7 0))\n(left (7 0))\n(served 0 0)\n",
+        "no film has viewers\n\
+        nobody is expected to watch 1 shelf film: 1 stored, 0 without a slot\n",
+    ),
+];
+
+#[test]
+fn shelf_films_are_counted_below_the_sums() {
+    for (lines, closing) in CLOSINGS {
+        let text = format!("(rack 2 2 40)\n{lines}");
+        let plan = plan_of(text.as_bytes()).expect("a plan text");
+        let page = page(&plan);
+        assert!(page.ends_with(&format!("]\n\n{closing}")), "{page}");
+        assert_page_is_of(&plan, &page);
+    }
+}
+
+#[test]
+fn the_most_shelf_films_are_shown() {
+    let copies = |disk: u32| (1..=32).map(|slot| (64 * slot + disk, 0)).collect();
+    let plan = Plan {
+        rack: rack(64, 32, 65_535),
+        disks: (0..64).map(copies).collect(),
+        left: (10_000..11_024).map(|film| (film, 0)).collect(),
+    };
+    let page = page(&plan);
+    let closing = "nobody is expected to watch 3072 shelf films: 2048 stored, 1024 without a slot";
+    assert_eq!(page.lines().last(), Some(closing));
+    assert_page_is_of(&plan, &page);
+}
+
 #[test]
 fn the_rack_is_counted_in_words() {
     let page = page(&one_disk(0, 0));
@@ -214,6 +304,24 @@ fn one_film_on_every_disk_takes_lines_that_line_up() {
 }
 
 #[test]
+fn copies_without_viewers_line_up_with_the_others() {
+    let plan = Plan {
+        rack: rack(64, 32, 65_535),
+        disks: (1..=64)
+            .map(|disk| vec![(65_535, disk % 2 * 65_535)])
+            .collect(),
+        left: vec![(1, 0), (65_535, 1_000_000)],
+    };
+    let page = page(&plan);
+    let start = " film   served     left  disk:viewers\n\
+        \u{20}   1        0  no slot  none\n\
+        65535  2097120  1000000   1:65535   2:shelf   3:65535   4:shelf   5:65535\n\
+        \u{20}                         6:shelf   7:65535   8:shelf   9:65535  10:shelf\n";
+    assert!(page.contains(start), "{page}");
+    assert_page_is_of(&plan, &page);
+}
+
+#[test]
 fn the_largest_plan_is_shown_whole() {
     let plan = Plan::largest();
     assert_page_is_of(&plan, &page(&plan));
@@ -225,74 +333,5 @@ fn random_plans_can_be_taken_back_from_their_pages() {
     for _ in 0..200 {
         let plan = good(&mut dice);
         assert_page_is_of(&plan, &page(&plan));
-    }
-}
-
-/// Film, then served, left, and viewers by disk.
-type Films = BTreeMap<u32, (u64, u64, Vec<(u32, u32)>)>;
-
-/// What the plan has of each film.
-fn films_of(plan: &Plan) -> Films {
-    let mut films = Films::new();
-    let disks = (1..).zip(&plan.disks);
-    let copies = disks.flat_map(|(disk, copies)| copies.iter().map(move |copy| (disk, copy)));
-    for (disk, &(film, viewers)) in copies {
-        let film = films.entry(film).or_default();
-        film.0 += u64::from(viewers);
-        film.2.push((disk, viewers));
-    }
-    let left = plan.left.iter();
-    left.for_each(|&(film, amount)| films.entry(film).or_default().1 = amount.into());
-    films
-}
-
-/// What a page's rows say of each film.
-fn films_on<'a>(rows: impl Iterator<Item = &'a str>) -> Films {
-    let mut films = Films::new();
-    let mut film = 0;
-    for row in rows {
-        let (copies, numbers): (Vec<&str>, Vec<&str>) = row
-            .split_whitespace()
-            .filter(|word| *word != "none")
-            .partition(|word| word.contains(':'));
-        let numbers: Vec<u64> = numbers
-            .iter()
-            .map(|word| word.parse().expect("a number"))
-            .collect();
-        if let [number, served, left] = numbers[..] {
-            film = number as u32;
-            films.insert(film, (served, left, Vec::new()));
-        }
-        let copies = copies
-            .iter()
-            .map(|copy| copy.split_once(':').expect("a copy"));
-        let copies =
-            copies.map(|(disk, viewers)| (disk.parse().unwrap(), viewers.parse().unwrap()));
-        films.get_mut(&film).expect("a film").2.extend(copies);
-    }
-    films
-}
-
-/// Asserts that a page has every film and every disk of the plan, in lines of one shape.
-fn assert_page_is_of(plan: &Plan, page: &str) {
-    assert!(
-        page.lines()
-            .all(|line| line.len() < 80 && line.trim_end() == line),
-        "{page}"
-    );
-    let mut parts = page.split("\n\n").skip(1);
-    if !films_of(plan).is_empty() {
-        let films = parts.next().expect("films").lines().skip(1);
-        assert_eq!(films_on(films), films_of(plan));
-    }
-    let disks: Vec<&str> = parts.next().expect("disks").lines().skip(1).collect();
-    let (slots, streams) = (plan.rack.slots.0, plan.rack.streams.0);
-    assert_eq!(disks.len(), plan.disks.len());
-    for ((number, copies), row) in (1..).zip(&plan.disks).zip(&disks) {
-        let words: Vec<&str> = row.split_whitespace().collect();
-        let used = total(copies);
-        let expected = format!("{number} {} of {slots} {used} of {streams}", copies.len());
-        assert_eq!(words[..7].join(" "), expected);
-        assert_eq!(row.len(), disks[0].len());
     }
 }

@@ -63,6 +63,9 @@ const COMMANDS: [Command; 4] = [
         name: "show",
         uses: &[("PLAN", "print a plan for people, by film and by disk")],
         more: "\
+A shelf film is one that nobody is expected to watch. A copy without viewers is
+shown as DISK:shelf. A shelf film that found no slot has 'no slot' under 'left'.
+
 On a terminal bold and colour are used, unless NO_COLOR is set and not empty or
 TERM is dumb.
 ",

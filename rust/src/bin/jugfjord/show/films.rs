@@ -14,23 +14,60 @@ pub const TITLES: [&str; 4] = ["film", "served", "left", "disk:viewers"];
 /// The width of a line of copies. With the numbers before it a row has at most 79 characters.
 const WIDTH: usize = 54;
 const GAP: &str = "  ";
+/// Stands in the place of a copy's viewers where it has none.
+const SHELF: &str = "shelf";
+/// Stands in the place of what is left where a film has no copy and no viewers are left.
+const NO_SLOT: &str = "no slot";
 
 /// A film's copy: the disk, and the viewers there.
 type Stored = (u32, u32);
 
 /// What a plan has of one film.
 #[derive(Default)]
-struct Film {
+pub struct Film {
     copies: Vec<Stored>,
     left: u32,
 }
 
-/// The rows of all films, by number.
-pub fn rows(plan: &ReadPlan, tables: &TablesView) -> Vec<Row> {
-    let films = films(plan, tables);
+/// The films of a plan, by number.
+pub type Films = BTreeMap<u32, Film>;
+
+impl Film {
+    /// The viewers of all copies.
+    fn served(&self) -> u32 {
+        self.copies.iter().map(|copy| copy.1).sum()
+    }
+
+    /// Whether it is on some disk.
+    pub fn is_stored(&self) -> bool {
+        !self.copies.is_empty()
+    }
+
+    /// Whether viewers are left.
+    pub fn has_left(&self) -> bool {
+        self.left > 0
+    }
+
+    /// Whether nobody is expected to watch it.
+    pub fn is_shelf_film(&self) -> bool {
+        self.served() == 0 && !self.has_left()
+    }
+
+    /// What is left, as it is shown.
+    fn shown_left(&self) -> String {
+        if self.is_stored() || self.has_left() {
+            self.left.to_string()
+        } else {
+            NO_SLOT.into()
+        }
+    }
+}
+
+/// The rows of all films.
+pub fn rows(films: &Films) -> Vec<Row> {
     let copies = || films.values().flat_map(|film| &film.copies);
-    let disk = widest(copies().map(|copy| copy.0));
-    let viewers = widest(copies().map(|copy| copy.1));
+    let disk = widest(copies().map(|copy| copy.0.to_string()));
+    let viewers = widest(copies().map(|copy| shown_viewers(copy.1)));
     let rows = |(&number, film): (&u32, &Film)| {
         rows_of(number, film, copy_lines(&film.copies, disk, viewers))
     };
@@ -38,8 +75,8 @@ pub fn rows(plan: &ReadPlan, tables: &TablesView) -> Vec<Row> {
 }
 
 /// What the plan has of each film.
-fn films(plan: &ReadPlan, tables: &TablesView) -> BTreeMap<u32, Film> {
-    let mut films: BTreeMap<u32, Film> = BTreeMap::new();
+pub fn films(plan: &ReadPlan, tables: &TablesView) -> Films {
+    let mut films = Films::new();
     let left = tables.left[..plan.left as usize].iter();
     left.for_each(|entry| films.entry(entry.film()).or_default().left = entry.amount());
     let disks = disks::copies(plan, tables);
@@ -51,14 +88,25 @@ fn films(plan: &ReadPlan, tables: &TablesView) -> BTreeMap<u32, Film> {
     films
 }
 
-/// How many digits the longest of the numbers has.
-fn widest(numbers: impl Iterator<Item = u32>) -> usize {
-    numbers.max().unwrap_or(0).to_string().len()
+/// How many characters the longest of the words has.
+fn widest(words: impl Iterator<Item = String>) -> usize {
+    words.map(|word| word.len()).max().unwrap_or(0)
 }
 
-/// The copies in lines, each with so many digits for its disk and for its viewers.
+/// The viewers of a copy, as they are shown.
+fn shown_viewers(viewers: u32) -> String {
+    match viewers {
+        0 => SHELF.into(),
+        _ => viewers.to_string(),
+    }
+}
+
+/// The copies in lines, each with so many characters for its disk and for its viewers.
 fn copy_lines(copies: &[Stored], disk: usize, viewers: usize) -> Vec<String> {
-    let shown = |&(number, amount): &Stored| format!("{number:>disk$}:{amount:<viewers$}");
+    let shown = |&(number, amount): &Stored| {
+        let amount = shown_viewers(amount);
+        format!("{number:>disk$}:{amount:<viewers$}")
+    };
     let shown: Vec<String> = copies.iter().map(shown).collect();
     let a_line = (WIDTH + GAP.len()) / (disk + 1 + viewers + GAP.len());
     match copies {
@@ -69,10 +117,13 @@ fn copy_lines(copies: &[Stored], disk: usize, viewers: usize) -> Vec<String> {
 
 /// A film's row, and one more for each further line of its copies.
 fn rows_of(number: u32, film: &Film, copy_lines: Vec<String>) -> impl Iterator<Item = Row> {
-    let served: u32 = film.copies.iter().map(|copy| copy.1).sum();
-    let first = [number, served, film.left].map(|number| number.to_string());
+    let first = [
+        number.to_string(),
+        film.served().to_string(),
+        film.shown_left(),
+    ];
     let columns = iter::once(first).chain(iter::repeat_with(Default::default));
-    let in_colour = film.left > 0;
+    let in_colour = film.has_left() || !film.is_stored();
     let row = move |(columns, detail)| Row {
         columns,
         detail,

@@ -11,6 +11,7 @@ use jugfjord::wrap;
 use crate::arguments::Arguments;
 use crate::failure::Failure;
 use crate::{plan_file, standard};
+use films::{Film, Films};
 use page::Page;
 
 /// The most characters of a line.
@@ -24,11 +25,12 @@ pub fn show(arguments: &Arguments) -> Result<Vec<u8>, Failure> {
     let plan = wrap::read(&text, tables.lend())
         .accepted()
         .map_err(|refusal| plan_file::refused(source, &text, refusal))?;
+    let films = films::films(&plan, &tables.view());
     let mut page = Page::new(standard::may_be_coloured());
     page.sentence(&rack(&plan));
-    page.table(films::TITLES, films::rows(&plan, &tables.view()));
+    page.table(films::TITLES, films::rows(&films));
     page.table(disks::TITLES, disks::rows(&plan, &tables.view()));
-    page.sentence(&sums(&plan));
+    page.sentence(&(sums(&plan, &films) + &shelf(&films)));
     Ok(page.into_bytes())
 }
 
@@ -41,23 +43,45 @@ fn rack(plan: &ReadPlan) -> String {
 }
 
 /// S and U in words, with the share served in per cent, rounded down.
-fn sums(plan: &ReadPlan) -> String {
+fn sums(plan: &ReadPlan, films: &Films) -> String {
     let wanted = plan.served + plan.unserved;
     if wanted == 0 {
-        return "no film has viewers, and none is left".into();
+        let nothing = "no film has viewers";
+        return match plan.left {
+            0 => format!("{nothing}, and none is left"),
+            _ => nothing.into(),
+        };
     }
     let hundredths = plan.served * 10_000 / wanted;
     let share = format!("{}.{:02} %", hundredths / 100, hundredths % 100);
     let wanted = counted(wanted, "viewer");
     let served = format!("served {} of {wanted}, {share}", plan.served);
-    match plan.left {
+    match count(films, Film::has_left) {
         0 => served,
         films => joined(&served, &left(plan.unserved, films)),
     }
 }
 
+/// A line below the sums on the films that nobody is expected to watch, if there are any.
+fn shelf(films: &Films) -> String {
+    let stored = count(films, |film| film.is_shelf_film() && film.is_stored());
+    let others = count(films, |film| film.is_shelf_film() && !film.is_stored());
+    match stored + others {
+        0 => String::new(),
+        all => format!(
+            "\nnobody is expected to watch {}: {stored} stored, {others} without a slot",
+            counted(all, "shelf film")
+        ),
+    }
+}
+
+/// How many films are such.
+fn count(films: &Films, is_such: impl Fn(&Film) -> bool) -> u64 {
+    films.values().filter(|film| is_such(film)).count() as u64
+}
+
 /// What is left, in words.
-fn left(unserved: u64, films: u32) -> String {
+fn left(unserved: u64, films: u64) -> String {
     let verb = if unserved == 1 { "is" } else { "are" };
     let (viewers, films) = (counted(unserved, "viewer"), counted(films, "film"));
     format!("{viewers} of {films} {verb} left")

@@ -1,0 +1,115 @@
+//! Pages of plans taken back: what a page says of each film and each disk, beside the plan.
+
+use std::collections::BTreeMap;
+use std::num::NonZeroU32;
+
+use jugfjord::reference::plan::{total, Plan};
+
+/// What a plan or a page has of one film.
+#[derive(Debug, Default, PartialEq, Eq)]
+struct Film {
+    served: u64,
+    /// None where the film has no copy and nobody is expected to watch it.
+    left: Option<u64>,
+    /// Disks with the viewers there.
+    copies: Vec<(u32, u32)>,
+}
+
+/// All films by number.
+type Films = BTreeMap<u32, Film>;
+
+/// What the plan has of each film.
+fn films_of(plan: &Plan) -> Films {
+    let mut films = Films::new();
+    let disks = (1..).zip(&plan.disks);
+    let copies = disks.flat_map(|(disk, copies)| copies.iter().map(move |copy| (disk, copy)));
+    for (disk, &(film, viewers)) in copies {
+        let film = films.entry(film).or_default();
+        film.served += u64::from(viewers);
+        film.left = Some(0);
+        film.copies.push((disk, viewers));
+    }
+    for &(film, amount) in &plan.left {
+        let film = films.entry(film).or_default();
+        let is_shown = amount > 0 || !film.copies.is_empty();
+        film.left = is_shown.then_some(amount.into());
+    }
+    films
+}
+
+/// What a page's rows say of each film.
+fn films_on<'a>(rows: impl Iterator<Item = &'a str>) -> Films {
+    let mut films = Films::new();
+    let mut film = 0;
+    for row in rows {
+        let row = row.replace("no slot", "-");
+        let (copies, columns): (Vec<&str>, Vec<&str>) = row
+            .split_whitespace()
+            .filter(|word| *word != "none")
+            .partition(|word| word.contains(':'));
+        if let [number, served, left] = columns[..] {
+            film = number.parse().expect("a film");
+            let shown = Film {
+                served: served.parse().expect("a number"),
+                left: left.parse().ok(),
+                copies: Vec::new(),
+            };
+            films.insert(film, shown);
+        }
+        let film = films.get_mut(&film).expect("a film");
+        film.copies.extend(copies.into_iter().map(copy_on));
+    }
+    films
+}
+
+/// The disk and the viewers of a copy as a page has it.
+fn copy_on(copy: &str) -> (u32, u32) {
+    let (disk, viewers) = copy.split_once(':').expect("a copy");
+    let viewers = match viewers {
+        "shelf" => 0,
+        _ => viewers.parse::<NonZeroU32>().expect("viewers").get(),
+    };
+    (disk.parse().expect("a disk"), viewers)
+}
+
+/// Asserts that a page has every film and every disk of the plan, in lines of one shape, and
+/// counts its shelf films.
+pub fn assert_page_is_of(plan: &Plan, page: &str) {
+    assert!(
+        page.lines()
+            .all(|line| line.len() < 80 && line.trim_end() == line),
+        "{page}"
+    );
+    let films = films_of(plan);
+    let mut parts = page.split("\n\n").skip(1);
+    if !films.is_empty() {
+        let rows = parts.next().expect("films").lines().skip(1);
+        assert_eq!(films_on(rows), films);
+    }
+    assert_disks(plan, parts.next().expect("disks").lines().skip(1).collect());
+    assert_shelf(&films, parts.next().expect("sums"));
+}
+
+/// Asserts that these rows have every disk of the plan.
+fn assert_disks(plan: &Plan, disks: Vec<&str>) {
+    let (slots, streams) = (plan.rack.slots.0, plan.rack.streams.0);
+    assert_eq!(disks.len(), plan.disks.len());
+    for ((number, copies), row) in (1..).zip(&plan.disks).zip(&disks) {
+        let words: Vec<&str> = row.split_whitespace().collect();
+        let used = total(copies);
+        let expected = format!("{number} {} of {slots} {used} of {streams}", copies.len());
+        assert_eq!(words[..7].join(" "), expected);
+        assert_eq!(row.len(), disks[0].len());
+    }
+}
+
+/// Asserts that the sentences below the tables count the shelf films, if there are any.
+fn assert_shelf(films: &Films, closing: &str) {
+    let count = |is_such: fn(&&Film) -> bool| films.values().filter(is_such).count();
+    let stored = count(|film| film.served == 0 && film.left == Some(0));
+    let others = count(|film| film.left.is_none());
+    let counts = format!(": {stored} stored, {others} without a slot\n");
+    let is_counted = closing.ends_with(&counts);
+    assert_eq!(is_counted, stored + others > 0, "{counts:?}, {closing}");
+    assert_eq!(closing.contains("nobody"), is_counted, "{closing}");
+}
