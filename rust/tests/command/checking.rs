@@ -10,6 +10,9 @@ use crate::plans::good;
 
 /// A plan text of five lines.
 const TEXT: &str = "(rack 2 2 5)\n(disk 1 (7 4))\n(disk 2)\n(left (3 9))\n(served 4 9)\n";
+/// The same plan with copies of 0 viewers and a left film of amount 0.
+const TEXT_WITH_0: &str =
+    "(rack 2 2 5)\n(disk 1 (8 0) (7 4))\n(disk 2 (8 0))\n(left (2 0) (3 9))\n(served 4 9)\n";
 const WRONG_LINE: &str = "no plan text has this line after the lines before it";
 
 /// What `check` says of a plan.
@@ -21,13 +24,14 @@ fn accepted(plan: &Plan) -> String {
 
 #[test]
 fn plans_are_accepted() {
-    let folder = Folder::with("plan.txt", TEXT);
+    let folder = Folder::new();
     let said = "accepted: rack 2 2 5, served 4, not served 9\n";
-    assert_eq!(folder.run(&["check", "plan.txt"]).printed(), said);
-    assert_eq!(
-        folder.run_on(&["check", "-"], TEXT.as_bytes()).printed(),
-        said
-    );
+    for text in [TEXT, TEXT_WITH_0] {
+        folder.write("plan.txt", text);
+        assert_eq!(folder.run(&["check", "plan.txt"]).printed(), said);
+        let ran = folder.run_on(&["check", "-"], text.as_bytes());
+        assert_eq!(ran.printed(), said);
+    }
     folder.write("plan.txt", text_of(&Plan::largest()));
     assert_eq!(
         folder.run(&["check", "plan.txt"]).printed(),
@@ -63,8 +67,18 @@ const BEHIND: [(&str, &str); 4] = [
 ];
 
 /// A part of the text, what stands in its place, the line that is refused then, and its content.
-const REPLACED: [(&str, &str, usize, &str); 8] = [
+const REPLACED: [(&str, &str, usize, &str); 13] = [
     ("(7 4)", "(7 6)", 2, "'(disk 1 (7 6))'"),
+    ("(7 4)", "(7 4) (7 0)", 2, "'(disk 1 (7 4) (7 0))'"),
+    ("(7 4)", "(7 4) (0 0)", 2, "'(disk 1 (7 4) (0 0))'"),
+    (
+        "(7 4)",
+        "(7 4) (8 0) (9 0)",
+        2,
+        "'(disk 1 (7 4) (8 0) (9 0))'",
+    ),
+    ("(3 9)", "(3 9) (3 0)", 4, "'(left (3 9) (3 0))'"),
+    ("(3 9)", "(3 1000001)", 4, "'(left (3 1000001))'"),
     ("(disk 2)", "(disk 3)", 3, "'(disk 3)'"),
     ("(disk 2)", "", 3, "an empty line"),
     ("served 4", "served 5", 5, "'(served 5 9)'"),

@@ -142,6 +142,24 @@ fn a_rack_without_films_has_an_empty_plan() {
 }
 
 #[test]
+fn films_of_demand_0_are_in_the_plan() {
+    let plans = [
+        (
+            "rack 2 2 5\n3 0\n9 5\n1 0\n2 0\n",
+            "(rack 2 2 5)\n(disk 1 (9 5) (1 0))\n(disk 2 (2 0) (3 0))\n(left)\n(served 5 0)\n",
+        ),
+        (
+            "rack 1 1 1\n9 2\n5 0\n3 5\n7 1\n",
+            "(rack 1 1 1)\n(disk 1 (7 1))\n(left (3 5) (5 0) (9 2))\n(served 1 7)\n",
+        ),
+    ];
+    for (list, text) in plans {
+        let folder = Folder::with("list.txt", list);
+        assert_eq!(folder.run(&["plan", "list.txt"]).printed(), text);
+    }
+}
+
+#[test]
 fn the_samples_are_their_own_records() {
     let samples = concat!(env!("CARGO_MANIFEST_DIR"), "/../samples");
     let folder = Folder::new();
