@@ -75,7 +75,7 @@ pub fn rows(films: &Films) -> Vec<Row> {
 }
 
 /// What the plan has of each film.
-pub fn films(plan: &ReadPlan, tables: &TablesView) -> Films {
+pub fn gather(plan: &ReadPlan, tables: &TablesView) -> Films {
     let mut films = Films::new();
     let left = tables.left[..plan.left as usize].iter();
     left.for_each(|entry| films.entry(entry.film()).or_default().left = entry.amount());

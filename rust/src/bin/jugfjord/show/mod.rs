@@ -25,7 +25,7 @@ pub fn show(arguments: &Arguments) -> Result<Vec<u8>, Failure> {
     let plan = wrap::read(&text, tables.lend())
         .accepted()
         .map_err(|refusal| plan_file::refused(source, &text, refusal))?;
-    let films = films::films(&plan, &tables.view());
+    let films = films::gather(&plan, &tables.view());
     let mut page = Page::new(standard::may_be_coloured());
     page.sentence(&rack(&plan));
     page.table(films::TITLES, films::rows(&films));
@@ -46,11 +46,12 @@ fn rack(plan: &ReadPlan) -> String {
 fn sums(plan: &ReadPlan, films: &Films) -> String {
     let wanted = plan.served + plan.unserved;
     if wanted == 0 {
-        let nothing = "no film has viewers";
-        return match plan.left {
-            0 => format!("{nothing}, and none is left"),
-            _ => nothing.into(),
+        let left = if plan.left == 0 {
+            ", and none is left"
+        } else {
+            ""
         };
+        return format!("no film has viewers{left}");
     }
     let hundredths = plan.served * 10_000 / wanted;
     let share = format!("{}.{:02} %", hundredths / 100, hundredths % 100);
