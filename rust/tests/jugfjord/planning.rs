@@ -130,7 +130,7 @@ fn tally_shape(case: &Case, planned: &Planned, after: &GuardedTables, tally: &mu
         0 => "nothing left",
         _ => "some film left",
     });
-    let shapes = [
+    tally.count_met(&[
         ("one stream", case.rack.streams.0 == 1),
         ("largest rack", case.rack.places() == 2_048),
         ("1,024 records", case.list.len() == 8_192),
@@ -147,8 +147,5 @@ fn tally_shape(case: &Case, planned: &Planned, after: &GuardedTables, tally: &mu
             "shelf film left beside others",
             (1..planned.left as usize).contains(&shelf.left),
         ),
-    ];
-    for (name, _) in shapes.iter().filter(|(_, met)| *met) {
-        tally.count(*name);
-    }
+    ]);
 }

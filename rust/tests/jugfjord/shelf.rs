@@ -31,11 +31,9 @@ impl Shelf {
 
     /// Counts which of them an accepted plan has.
     pub fn tally(&self, tally: &mut Tally) {
-        if self.copies > 0 {
-            tally.count("accepted with 0 viewers");
-        }
-        if self.left > 0 {
-            tally.count("accepted with amount 0");
-        }
+        tally.count_met(&[
+            ("accepted with 0 viewers", self.copies > 0),
+            ("accepted with amount 0", self.left > 0),
+        ]);
     }
 }

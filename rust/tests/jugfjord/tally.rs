@@ -19,6 +19,12 @@ impl Tally {
         *self.counts.entry(what.into()).or_default() += 1;
     }
 
+    /// Counts those of these that were met.
+    pub fn count_met(&mut self, shapes: &[(&str, bool)]) {
+        let met = shapes.iter().filter(|(_, met)| *met);
+        met.for_each(|(what, _)| self.count(*what));
+    }
+
     /// Counts an answer by its number, with success as `accepted`.
     pub fn answer(&mut self, number: u32) {
         self.count(answer_name(number));

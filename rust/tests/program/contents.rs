@@ -23,6 +23,12 @@ fn whole_records(length: usize) -> usize {
     length.saturating_sub(HEAD) / RECORD
 }
 
+/// Whether a list of this length is judged record by record.
+fn is_judged(length: usize) -> bool {
+    let count = whole_records(length);
+    length == of_records(count) && count <= MOST_RECORDS
+}
+
 /// Distinct films with demands, for the whole records of this length and the odd bytes behind.
 fn demands(length: usize, most: u32) -> Vec<(u32, u32)> {
     let mut dice = Dice::new(length as u64);
@@ -34,7 +40,7 @@ fn demands(length: usize, most: u32) -> Vec<(u32, u32)> {
 }
 
 /// The bytes of a rack and a list.
-fn bytes_of(rack: [u32; 3], list: &[(u32, u32)]) -> Vec<u8> {
+pub fn bytes_of(rack: [u32; 3], list: &[(u32, u32)]) -> Vec<u8> {
     let mut bytes = rack.map(u32::to_le_bytes).concat();
     bytes.extend(records(list));
     bytes
@@ -57,6 +63,16 @@ pub fn accepted(length: usize) -> Vec<Named> {
     RACKS.map(named).to_vec()
 }
 
+/// Films of demand 0 alone where the list is planned, with slots for all of them and for few.
+pub fn unwanted(length: usize) -> Vec<Named> {
+    let racks = [RACKS[0].0, [3, 2, 5]].into_iter();
+    let named = |rack| {
+        let bytes = bytes_of(rack, &demands(length, 0));
+        (format!("rack {rack:?}, demand 0 alone"), bytes)
+    };
+    racks.filter(|_| is_judged(length)).map(named).collect()
+}
+
 /// One number of the rack below and above its range. Which one it is goes round with the length.
 pub fn out_of_range(length: usize) -> Vec<Named> {
     let (rack, most) = RACKS[1];
@@ -75,10 +91,9 @@ pub fn out_of_range(length: usize) -> Vec<Named> {
 pub fn faulty(length: usize) -> Vec<Named> {
     let count = whole_records(length);
     let places = [2, count.saturating_sub(1), count];
-    let judged = length == of_records(count) && count <= MOST_RECORDS;
     let turns = (0..9).map(|turn| (turn / 3, turn % 3));
     turns
-        .filter(|&(rule, place)| judged || rule == place)
+        .filter(|&(rule, place)| is_judged(length) || rule == place)
         .filter(|&(_, place)| (2..=count).contains(&places[place]))
         .map(|(rule, place)| with_fault(length, [4, 5, 6][rule], places[place]))
         .collect()

@@ -4,7 +4,7 @@ use std::collections::{BTreeMap, BTreeSet};
 
 use jugfjord::rack::{MOST_RECORDS, RECORD};
 
-use crate::contents::{accepted, faulty, misleading_behind, out_of_range, Named};
+use crate::contents::{accepted, faulty, misleading_behind, out_of_range, unwanted, Named};
 
 /// The input of document 01's case A: a rack and twelve records.
 pub const INPUT_A: &[u8] = include_bytes!("../../../samples/case_a.bin");
@@ -56,7 +56,7 @@ pub fn inputs(lengths: &[usize]) -> Vec<Input> {
 
 /// Inputs of one length, all different.
 fn of_length(length: usize) -> impl Iterator<Item = Input> {
-    let kinds = [accepted, out_of_range, faulty, misleading_behind];
+    let kinds = [accepted, unwanted, out_of_range, faulty, misleading_behind];
     let cut = |(name, bytes): Named| (bytes[..length].to_vec(), format!("{length} bytes, {name}"));
     let distinct: BTreeMap<_, _> = kinds
         .iter()

@@ -1,5 +1,9 @@
 //! Inputs of many lengths, in every way that they can come, against the plain planner and writer.
 
+use jugfjord::reference::plan::Pair;
+use jugfjord::reference::reader::plan_of;
+
+use crate::contents::bytes_of;
 use crate::expected::{answer, output};
 use crate::inputs::{inputs, INPUT_A, LONG, MIDDLE, SHORT};
 use crate::tally::Tally;
@@ -66,6 +70,13 @@ fn case_a_with_time_to_read_each_byte() {
 }
 
 #[test]
+fn case_g_has_a_shelf_copy() {
+    let input = bytes_of([1, 4, 9], &[(4, 0), (1, 2), (2, 3)]);
+    let text = b"(rack 1 4 9)\n(disk 1 (1 2) (2 3) (4 0))\n(left)\n(served 5 0)\n";
+    file(&input).assert_printed(text, "case G");
+}
+
+#[test]
 fn the_plain_planner_and_writer_print_case_a() {
     assert_eq!(output(INPUT_A), TEXT_A);
 }
@@ -74,16 +85,37 @@ fn the_plain_planner_and_writer_print_case_a() {
 fn the_inputs_have_every_answer() {
     let mut tally = Tally::new("inputs of the program");
     for input in inputs(&[SHORT, MIDDLE, LONG].concat()) {
-        let refusal = answer(&input.bytes).err();
-        tally.answer(refusal.map_or(0, |refusal| refusal.number));
+        match answer(&input.bytes) {
+            Ok(text) => tally_plan(&text, &mut tally),
+            Err(refusal) => tally.answer(refusal.number),
+        }
     }
     tally.close(&[
-        ("accepted", 12),
+        ("accepted", 20),
+        ("shelf copies on one disk", 2),
+        ("shelf copies on several disks", 4),
+        ("shelf film left", 4),
+        ("films of demand 0 alone", 8),
         ("refused 1", 100),
         ("refused 2", 300),
         ("refused 3", 30),
         ("refused 4", 5),
         ("refused 5", 5),
         ("refused 6", 5),
+    ]);
+}
+
+/// Counts a plan by where its films of demand 0 are.
+fn tally_plan(text: &[u8], tally: &mut Tally) {
+    let plan = plan_of(text).expect("a plan text");
+    let has_shelf = |pairs: &[Pair]| pairs.iter().any(|pair| pair.1 == 0);
+    let disks = plan.disks.iter().filter(|copies| has_shelf(copies)).count();
+    let is_unwatched = plan.served() + plan.unserved() == 0;
+    tally.answer(0);
+    tally.count_met(&[
+        ("shelf copies on one disk", disks == 1),
+        ("shelf copies on several disks", disks > 1),
+        ("shelf film left", has_shelf(&plan.left)),
+        ("films of demand 0 alone", disks > 0 && is_unwatched),
     ]);
 }
