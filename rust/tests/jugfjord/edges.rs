@@ -47,11 +47,15 @@ fn records_1024_pass_and_1025_do_not() {
     expect_refused(rack_of(1), &list, 3, 0);
 }
 
-/// Asserts that each reader refuses the text at this line.
+/// Asserts that each reader and each judge refuses the text at this line.
 fn expect_wrong_line(text: &str, line: u32) {
     for (name, reader) in READERS {
         let mut tables = Tables::for_plan(rack_of(1), 0);
         let read = reader(text.as_bytes(), tables.lend());
+        assert_eq!((read.number, read.second), (9, line), "{name}: {text:?}");
+    }
+    for (name, judge) in JUDGES {
+        let read = judge(text.as_bytes());
         assert_eq!((read.number, read.second), (9, line), "{name}: {text:?}");
     }
 }
