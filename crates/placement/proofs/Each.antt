@@ -66,7 +66,7 @@ module _ (P : Item → Type 0) where
   each-last xs some all = each-at P (length xs - 1) xs (item 0 0) all (omega arith)
 
   -- An item at its sorted place.
-  each-insert : (o : Item → Item → Bool) (x : Item) (xs : List Item) → P x → Each P xs → Each P (insertBy o x xs)
+  pub each-insert : (o : Item → Item → Bool) (x : Item) (xs : List Item) → P x → Each P xs → Each P (insertBy o x xs)
   each-insert o x [] here all = (here, tt)
   each-insert o x (y ∷ ys) here all = go (o x y) (each-insert o x ys here (all .1))
     where

@@ -36,7 +36,7 @@ each-without P (x ∷ xs) all = go (leb 1 (x .amount)) (each-without P xs (all .
     go false later = (all .0, later)
 
 -- The items with an amount and those without are all items.
-without-sum : (w : Item → ℕ) (xs : List Item) → sumBy (ifWanted w) xs + sumBy w (withoutAmount xs) ≡ sumBy w xs
+pub without-sum : (w : Item → ℕ) (xs : List Item) → sumBy (ifWanted w) xs + sumBy w (withoutAmount xs) ≡ sumBy w xs
 without-sum w [] = refl
 without-sum w (x ∷ xs) = go (leb 1 (x .amount)) (without-sum w xs)
   where

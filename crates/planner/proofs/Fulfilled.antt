@@ -20,12 +20,14 @@ use Rattle.placement.specs.Planning.{Call, PlanSums, sums, recordsIn, placedIn,
 use Rattle.placement.specs.Promise.{Distinct}
 use Rattle.placement.specs.WellFormed.{CallWellFormed}
 use Rattle.placement.proofs.Conjunctions.{both-true}
+use Rattle.placement.proofs.Sums.{length-sum, one}
 use Rattle.placement.proofs.Films.{Usable}
+use Rattle.placement.proofs.Records.{records-length}
 use Rattle.placement.proofs.ByFilm.{sumBy-byFilm, byFilm-length}
 use Rattle.placement.proofs.Listed.{listOf-distinct}
 use Rattle.placement.proofs.Formed.{plan-disks}
 use Rattle.placement.proofs.WellFormed.{accepted-usable, listOf-entries, placement-accepted}
-use Rattle.placement.proofs.ShelfFilms.{shelf-unwanted}
+use Rattle.placement.proofs.ShelfFilms.{shelf-sum, shelf-unwanted}
 use Rattle.placement.proofs.ShelfSharing.{shelved-served}
 use Rattle.placement.proofs.ShelfPlan.{left-distinct, left-total}
 use Rattle.placement.proofs.Calls.{call-judged, call-wellFormed}
@@ -59,6 +61,17 @@ tables-same {c} {c'} {n} {n'} {l} {l'} p q r =
 module _ (c : Call) (formed : CallWellFormed c) where
   usable : Usable (c .rack)
   usable = accepted-usable (c .rack) (formed .rack)
+
+  -- There are no more films of demand 0 than records.
+  pub films-few : length (shelfFilms (recordsIn c)) ≤ recordCount (c .list)
+  films-few =
+      omega (
+        arith,
+        length-sum (shelfFilms (recordsIn c)),
+        shelf-sum (recordsIn c) one,
+        length-sum (recordsIn c),
+        records-length (c .list),
+      )
 
   placed-accepted : disksAccepted (c .rack) (placedIn c) ≡ true
   placed-accepted =

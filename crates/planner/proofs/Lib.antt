@@ -2,8 +2,8 @@ pub mod Cuts
 pub mod Ascending
 pub mod Places
 pub mod SortedKeys
+pub mod ShelfOrder
 pub mod Building
-pub mod ShelfKeys
 pub mod ShelvesByDisk
 pub mod Runs
 pub mod Search
@@ -19,7 +19,7 @@ pub mod WrittenTo
 pub mod FilledTo
 pub mod ShelvedTo
 pub mod ShelfTables
-pub mod LeftRun
+pub mod KeyRuns
 pub mod LeftFilms
 pub mod KeysAgain
 pub mod Answered

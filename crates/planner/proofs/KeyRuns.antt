@@ -1,14 +1,45 @@
--- What is left as one run of the keys: films in front, and behind them a part that was lent and came back.
+-- Runs of the keys: the films in front, the list behind them, which is lent and comes back, and what is left as one run of both.
 use mathlib.Core.Path.{_≡_, refl, sym, ap, ap₂, _∙_}
 use mathlib.Core.List.{List, [], _++_, map, map-append, append-nil}
 use Prim.Native.Nat.{ℕ, _+_, _-_, _≤_}
 use native.Mathlib.Omega.{arith}
 use lib.ListN.{length, take, drop, length-append, length-drop, drop-of-length-le}
-use lib.Seq.{length-take-le, take-take, take-append-add, drop-append-le}
+use lib.Seq.{length-take-le, take-take, take-at, drop-at, take-append-add, drop-append-le}
 use borrow.Rule.Slice.PartMut.{putMid, take-put}
 use Rattle.placement.specs.Items.{Item}
+use Rattle.placement.proofs.ReadBack.{front-length}
 use Rattle.planner.specs.Keys.{itemOf, itemsOf}
-use Rattle.planner.proofs.Cuts.{drop-map}
+use Rattle.planner.proofs.Cuts.{take-map, drop-map, take-drop}
+
+-- The first n keys stand for two lists, one behind the other.
+module _
+    (keys : List ℕ) (n m : ℕ) (room : n ≤ length keys) (front behind : List Item) (items : itemsOf n keys ≡ front ++ behind)
+    (is : m ≡ length front)
+  where
+    within : m ≤ n
+    within = omega (arith, front-length n keys room, ap length items, length-append front behind)
+
+    -- The first m are the one,
+    pub items-front : itemsOf m keys ≡ front
+    items-front =
+        ap (map itemOf) (sym (take-take m n keys within))
+        ∙ sym (take-map itemOf m (take n keys))
+        ∙ ap (take m) items
+        ∙ take-at front behind m (sym is)
+
+    -- and the part from m on begins with the other.
+    pub items-behind : itemsOf (n - m) (take (length keys - m) (drop m keys)) ≡ behind
+    items-behind =
+        ap (map itemOf)
+        (take-take (n - m) (length keys - m) (drop m keys) (omega (arith, within))
+        ∙ take-drop m (n - m) keys
+        ∙ ap (λ (k : ℕ). drop m (take k keys)) all)
+        ∙ sym (drop-map itemOf m (take n keys))
+        ∙ ap (drop m) items
+        ∙ drop-at front behind m (sym is)
+      where
+        all : m + (n - m) ≡ n
+        all = omega (arith, within)
 
 -- Of the keys, those from `films` on were lent as `part`, which came back.
 module _ (keys part : List ℕ) (films : ℕ) (room : films ≤ length keys) where
