@@ -1,15 +1,15 @@
-"""Prints what the program cross_check has to print, from a generator and a planner written here from document 01's words alone.
+"""Prints what the program cross_check has to print, from a generator here and a planner of document 01's and 02's words alone.
 
-The generator draws the same cases as the program does. The planner shares nothing with the program: the list is a sorted
-Python list of (demand, film), and a split film is inserted anew. The last line states what the comparison has to find.
+The generator draws the same cases as the program does. The planner, in sliding_window.py, shares nothing with the program: the list
+is a sorted Python list of (demand, film), and a split film is inserted anew. The last line says what the comparison has to find.
 Usage: python3 tools/cross_check_expected.py > crates/cross_check/stdout
-With the argument --families the refusals by number and the plans by family go to standard error.
+With the argument --families the refusals by number, the plans by family and what films of demand 0 meet go to standard error.
 """
-import bisect
+import struct
 import sys
 from collections import Counter
 
-from sliding_window import window
+from sliding_window import plan, sums
 
 CASES = 25_000
 BITS = (1 << 64) - 1
@@ -121,9 +121,16 @@ class Case:
                 film = self.own_film(draw(self.number, 15, i))
         return film
 
+    def unwanted(self, i):
+        """Whether the demand of record i is turned to 0. Of 16 cases one turns all, three turn one in 2, two turn one in 4."""
+        one_in = {0: 1, 1: 2, 2: 2, 3: 2, 4: 4, 5: 4}.get(draw(self.number, 16, 16), 0)
+        return one_in > 0 and draw(self.number, 4_000 + i, one_in) == 0
+
     def demand(self, i):
         if 12 in self.faults and i == draw(self.number, 8, self.records):
             return 1_000_001
+        if self.unwanted(i):
+            return 0
         own = from_to(self.number, 100 + i, self.low, self.high) * 2**self.doubled
         return own + self.load * draw(self.number, 2_000 + i, self.folds)
 
@@ -162,32 +169,25 @@ def refusal(n, k, load, data, copies, counts, lefts):
     return 0
 
 
-def planned(n, k, load, data):
-    """S and U of a list that is not refused."""
-    films = []
-    for at in range(0, len(data), 8):
-        demand = int.from_bytes(data[at + 4 : at + 8], "little")
-        if demand > 0:
-            films.append((demand, int.from_bytes(data[at : at + 4], "little")))
-    films.sort()
-    served = 0
-    for _ in range(n):
-        start, end = window(films, k, load)
-        chosen = films[start:end]
-        del films[start:end]
-        viewers = sum(d for d, _ in chosen)
-        if viewers >= load:
-            rest = viewers - load
-            if rest > 0:
-                bisect.insort(films, (rest, chosen[-1][1]))
-            viewers = load
-        served += viewers
-    return served, sum(d for d, _ in films)
+def met(slots, records, copies, left):
+    """What the films of demand 0 of a list meet, in words to count."""
+    shelf = sum(demand == 0 for _, demand in records)
+    amounts = [amount for _, amount in left]
+    shelved = [bool(disk) and disk[-1][1] == 0 for disk in copies]
+    full = [len(disk) == slots and disk[-1][1] > 0 for disk in copies]
+    return {
+        "lists with some": shelf > 0,
+        "with three or more": shelf > 2,
+        "with no others": shelf == len(records) > 0,
+        "with some left": 0 in amounts,
+        "with some left beside amounts": 0 in amounts and any(amounts),
+        "with some behind viewers": any(last and disk[0][1] > 0 for last, disk in zip(shelved, copies)),
+        "with some behind a full disk": any(first and second for first, second in zip(full, shelved[1:])),
+    }
 
 
 def main():
-    refused, served, unserved = Counter(), 0, 0
-    plans = Counter()
+    refused, plans, shelf, tally = Counter(), Counter(), Counter(), Counter()
     for number in range(CASES):
         c = Case(number)
         data = c.list()
@@ -196,15 +196,19 @@ def main():
         if why:
             refused[why] += 1
             continue
-        s, u = planned(c.disks, c.slots, c.load, data)
-        served, unserved = served + s, unserved + u
+        records = list(struct.iter_unpack("<II", data))
+        disks, left = plan(c.disks, c.slots, c.load, records)
+        served, unserved = sums(disks, left)
+        tally.update({"served": served, "left": unserved, "copies": sum(map(len, disks)), "left films": len(left)})
         plans[number % 10] += 1
+        shelf.update(met(c.slots, records, disks, left))
     if "--families" in sys.argv:
         print("refusals:", sorted(refused.items()), "plans:", sorted(plans.items()), file=sys.stderr)
+        print("films of demand 0:", dict(shelf), file=sys.stderr)
     print("cases", CASES)
     print("refused", sum(refused.values()))
-    print("served", served)
-    print("left", unserved)
+    for word in ("served", "left", "copies", "left films"):
+        print(word, tally[word])
     print("differ 0")
 
 

@@ -1,4 +1,6 @@
-"""The window of one disk, from document 01's words alone, for the scripts that make expected output."""
+"""The plan of a list that is not refused, from the words of document 01 and of 02's request P1 alone, for the scripts that make
+expected output."""
+import bisect
 
 
 def window(films, slots, load):
@@ -10,3 +12,42 @@ def window(films, slots, load):
         if sum(demand for demand, _ in films[start : start + slots]) >= load:
             return start, start + slots
     return max(len(films) - slots, 0), len(films)
+
+
+def fill(films, slots, load):
+    """The copies of one disk, each a film and its viewers. They leave the list, to which the rest of a split film returns."""
+    start, end = window(films, slots, load)
+    copies = [(film, demand) for demand, film in films[start:end]]
+    del films[start:end]
+    over = sum(viewers for _, viewers in copies) - load
+    if over >= 0:
+        film, demand = copies[-1]
+        copies[-1] = (film, demand - over)
+        if over > 0:
+            bisect.insort(films, (over, film))
+    return copies
+
+
+def shelve(disks, slots, films):
+    """Puts films of demand 0 on the disks that have a free slot, and answers those for which none has, with amount 0."""
+    left = []
+    for film in sorted(films):
+        with_room = [copies for copies in disks if len(copies) < slots]
+        if with_room:
+            with_room[0].append((film, 0))
+        else:
+            left.append((film, 0))
+    return left
+
+
+def plan(disks, slots, load, records):
+    """The copies of each disk and the left films, from records of film and demand."""
+    films = sorted((demand, film) for film, demand in records if demand >= 1)
+    copies = [fill(films, slots, load) for _ in range(disks)]
+    left = shelve(copies, slots, [film for film, demand in records if demand == 0])
+    return copies, sorted(left + [(film, amount) for amount, film in films])
+
+
+def sums(copies, left):
+    """S and U: the viewers of all copies, and the amounts of the left films."""
+    return sum(viewers for disk in copies for _, viewers in disk), sum(amount for _, amount in left)

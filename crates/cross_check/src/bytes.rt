@@ -5,6 +5,7 @@ use crate::case::first_fault;
 use crate::case::folds;
 use crate::case::second_fault;
 use crate::case::twice;
+use crate::case::unwanted;
 use crate::draw::draw;
 use crate::draw::film;
 use crate::draw::from_to;
@@ -53,8 +54,20 @@ fn film_of(c: Case, i: u32) -> u32 {
     )
 }
 
+// Whether the demand of record i is turned to 0.
+fn is_unwanted(number: u64, i: u32) -> bool {
+    let one_in = unwanted(number);
+    if one_in == 0 {
+        return false;
+    }
+    draw(number, 4_000 + (i as u64), one_in) == 0
+}
+
 // The demand of record i before faults.
 fn own_demand(c: Case, i: u32) -> u32 {
+    if is_unwanted(c.number, i) {
+        return 0;
+    }
     let own = twice(
         from_to(c.number, 100 + (i as u64), c.low, c.high),
         doubled(c.number),

@@ -7,6 +7,7 @@ use crate::lend::least;
 use crate::lend::proved_plan;
 use crate::plain::Call;
 use crate::plain::Outcome;
+use crate::plain::copies_of;
 use crate::plain::memory::COPIES;
 use crate::plain::memory::COUNTS;
 use crate::plain::memory::LEFT;
@@ -30,9 +31,10 @@ const UNUSED: u32 = 3_000_000_000;
 
 const UNUSED_ENTRY: u64 = 12_884_901_891_000_000_000;
 
-// The plain planner's answer, and whether the proved planner gave the same answer and tables.
+// The plain planner's answer and how many copies it stored, and whether the proved planner gave the same answer and tables.
 pub(crate) struct Compared {
     pub(crate) plain: Outcome,
+    pub(crate) copies: u64,
     pub(crate) same: bool,
 }
 
@@ -97,6 +99,7 @@ fn compare_tables(
     let same_left = same_entries(left, &m, LEFT);
     Compared {
         plain,
+        copies: copies_of(k, plain, &m),
         same: same_copies & same_left & same_counts(counts, &m),
     }
 }
@@ -111,6 +114,7 @@ fn compare_planners(k: Call, list: &[u8]) -> Compared {
     let plain = tables.plain;
     Compared {
         plain,
+        copies: tables.copies,
         same: tables.same & same_outcome(proved, plain),
     }
 }

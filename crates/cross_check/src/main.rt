@@ -1,5 +1,6 @@
 // Runs the proved planner and the plain planner on many racks and lists, compares every place of every table and every number
-// of the answers, and prints how many cases ran, how many were refused, what was served and left in all, and how many differ.
+// of the answers, and prints how many cases ran, how many were refused, what was served and left in all, how many copies and left
+// films that makes, and how many cases differ.
 mod bytes;
 mod case;
 mod compare;
@@ -15,12 +16,15 @@ use libc::STDOUT_FILENO;
 // How many cases are run.
 const CASES: u64 = 25_000;
 
-// How many cases ran, how many were refused, what was served and left in all, and how many cases differ.
+// How many cases ran, how many were refused, what was served and left in all, how many copies stand on all disks, how many films
+// are left, and how many cases differ.
 struct Tally {
     cases: u64,
     refused: u64,
     served: u64,
     unserved: u64,
+    copies: u64,
+    left_films: u64,
     differ: u64,
 }
 
@@ -41,6 +45,8 @@ fn counted(t: Tally, c: Compared) -> Tally {
         refused: one_more(t.refused, plain.refusal != 0),
         served: std::num::wrapping_add_u64(t.served, plain.served),
         unserved: std::num::wrapping_add_u64(t.unserved, plain.unserved),
+        copies: std::num::wrapping_add_u64(t.copies, c.copies),
+        left_films: std::num::wrapping_add_u64(t.left_films, plain.left),
         differ: one_more(t.differ, !c.same),
     }
 }
@@ -52,6 +58,8 @@ fn run_cases(cases: u64) -> Tally {
         refused: 0,
         served: 0,
         unserved: 0,
+        copies: 0,
+        left_films: 0,
         differ: 0,
     };
     for number in 0..cases {
@@ -74,5 +82,7 @@ fn main() {
     print_line(b"refused ", t.refused);
     print_line(b"served ", t.served);
     print_line(b"left ", t.unserved);
+    print_line(b"copies ", t.copies);
+    print_line(b"left films ", t.left_films);
     print_line(b"differ ", t.differ);
 }

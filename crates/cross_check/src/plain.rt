@@ -1,21 +1,26 @@
-// A plain planner, written from the words of document 01 alone, that the proved planner is compared with. Its records stay in
-// the order of the file. Each disk looks for the order of its list anew, and each sum is made anew. All that it holds stands in
-// one memory of numbers: the records, the list of a disk, and the three tables. A record, a copy or a left film is an entry: the
-// film, and from bit 32 on its demand, viewers or amount.
+// A plain planner, written from the words of document 01 and of 02's request P1 alone, that the proved planner is compared with.
+// Its records stay in the order of the file. Each disk looks for the order of its list anew, each film of demand 0 for its slot,
+// and each sum is made anew. All that it holds stands in one memory of numbers: the records, the list of a disk, and the three
+// tables. A record, a copy or a left film is an entry: the film, and from bit 32 on its demand, viewers or amount. Where a record's
+// film is on the disks, and nothing of it is left, its place is 0.
 mod disk;
 pub(crate) mod memory;
 mod ranks;
 mod records;
 mod refusals;
+mod shelf;
 
 use disk::fill_disks;
 use memory::COPIES;
+use memory::COUNTS;
 use memory::LEFT;
+use memory::plus;
 use ranks::Term;
 use ranks::put_in_order;
 use ranks::total;
 use records::read_records;
 use refusals::call_refusal;
+use shelf::shelve_films;
 
 // What is asked: the rack, and how many places of each table are lent.
 pub(crate) struct Call {
@@ -64,12 +69,21 @@ pub(crate) fn plan(c: Call, list: &[u8], m: &mut [u64]) -> Outcome {
 // Plans n records that are not refused.
 fn planned(c: Call, n: usize, m: &mut [u64]) -> Outcome {
     let end = fill_disks(c, n, m);
+    shelve_films(c, n, m);
     put_in_order(m, n, true, LEFT);
     Outcome {
         refusal: 0,
         second: 0,
         served: total(m, COPIES, end, Term::Demand),
         unserved: total(m, 0, n, Term::Demand),
-        left: total(m, 0, n, Term::Listed),
+        left: total(m, 0, n, Term::Listed { by_film: true }),
     }
+}
+
+// How many copies the plan of a call has on all disks, or 0 if the call was refused.
+pub(crate) fn copies_of(c: Call, o: Outcome, m: &[u64]) -> u64 {
+    if o.refusal > 0 {
+        return 0;
+    }
+    total(m, COUNTS, plus(COUNTS, c.disks as usize), Term::Film)
 }

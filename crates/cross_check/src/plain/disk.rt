@@ -53,11 +53,17 @@ fn viewers_at(m: &[u64], start: usize, i: usize, is_last: bool, load: u64) -> u6
     std::num::wrapping_sub_u64(load, before)
 }
 
-// Stores a copy in a place, and takes its viewers from what its film has left.
-fn store(m: &mut [u64], n: usize, place: usize, film: u64, viewers: u64) {
+// A record after viewers are taken from it: a film of which nothing is left leaves the records.
+fn rest_of(entry: u64, viewers: u64) -> u64 {
+    let rest = std::num::wrapping_sub_u64(entry, viewers << 32);
+    if number_of(rest) > 0 { rest } else { 0 }
+}
+
+// Stores a copy in a place, and takes its viewers from the record of its film, one of n.
+pub(crate) fn store(m: &mut [u64], n: usize, place: usize, film: u64, viewers: u64) {
     let i = place_of(m, n, film);
     put(m, place, film | (viewers << 32));
-    put(m, i, std::num::wrapping_sub_u64(at(m, i), viewers << 32));
+    put(m, i, rest_of(at(m, i), viewers));
 }
 
 // Fills slot j of a disk from a window of so many films, with a zero entry behind the window.
@@ -83,7 +89,7 @@ fn fill_slots(d: Disk, m: &mut [u64], start: usize, width: usize) {
 // Fills a disk, and answers how many copies it has.
 fn fill_disk(d: Disk, m: &mut [u64]) -> usize {
     put_in_order(m, d.records, false, LIST);
-    let films = total(m, 0, d.records, Term::Listed) as usize;
+    let films = total(m, 0, d.records, Term::Listed { by_film: false }) as usize;
     let end = window_end(m, films, d.slots, d.load);
     let start = minus(end, d.slots);
     let width = minus(end, start);
