@@ -1,30 +1,16 @@
 #!/usr/bin/env python3
-"""A planner of its own, written from the words of document 01 alone: it writes the data files and the expected output of plan_cases.
+"""Writes the data files and the expected output of plan_cases, from the words of documents 01 and 02 alone.
 
-Run it from anywhere; it writes below crates/plan_cases. The results that document 01 itself prints stand in PRINTED and are compared.
+The planner is that of sliding_window.py; the refusals and the text stand here. Run it from anywhere; it writes below
+crates/plan_cases. The results that the documents print, or that were worked out by hand, stand in PRINTED and are compared.
 """
 import pathlib
 import struct
 
-from sliding_window import window
+from sliding_window import plan, sums
 
 ROOT = pathlib.Path(__file__).resolve().parent.parent
 CRATE = ROOT / "crates" / "plan_cases"
-
-
-def fill(items, slots, load):
-    """The copies of one disk, and the list after it."""
-    start, end = window(items, slots, load)
-    chosen = items[start:end]
-    rest = items[:start] + items[end:]
-    copies = [(film, demand) for demand, film in chosen]
-    over = sum(demand for demand, _ in chosen) - load
-    if over >= 0 and chosen:
-        film, demand = copies[-1]
-        copies[-1] = (film, demand - over)
-        if over > 0:
-            rest = sorted(rest + [(over, film)])
-    return copies, rest
 
 
 def refusal(disks, slots, load, data):
@@ -63,16 +49,10 @@ def printed(data):
     numbers = refusal(disks, slots, load, data[12:])
     if numbers is not None:
         return form("refused", *numbers) + "\n"
-    items = sorted((demand, film) for film, demand in struct.iter_unpack("<II", data[12:]) if demand >= 1)
+    copies, left = plan(disks, slots, load, list(struct.iter_unpack("<II", data[12:])))
     lines = [form("rack", disks, slots, load)]
-    served = 0
-    for disk in range(1, disks + 1):
-        copies, items = fill(items, slots, load)
-        served += sum(viewers for _, viewers in copies)
-        lines.append(form("disk", disk, *pairs(copies)))
-    left = sorted((film, demand) for demand, film in items)
-    lines.append(form("left", *pairs(left)))
-    lines.append(form("served", served, sum(demand for _, demand in left)))
+    lines += [form("disk", number, *pairs(disk)) for number, disk in enumerate(copies, 1)]
+    lines += [form("left", *pairs(left)), form("served", *sums(copies, left))]
     return "".join(line + "\n" for line in lines)
 
 
@@ -113,7 +93,17 @@ FILES = {
     "film_before_demand": bytes_of(1, 1, 1, (0, 1000001)),
     "first_fault": bytes_of(1, 1, 1, (1, 1000001), (0, 1)),
     "repeated_after_0": bytes_of(1, 1, 1, (8, 0), (9, 1), (8, 1)),
+    "repeated_demand_0": bytes_of(1, 1, 1, (8, 0), (8, 0)),
+    "film_0_demand_0": bytes_of(1, 1, 1, (0, 0)),
     "split_returns": bytes_of(2, 2, 10, (1, 2), (2, 3), (3, 14)),
+    "shelf_left": bytes_of(1, 1, 5, (7, 5), (2, 0)),
+    "shelf_ascending": bytes_of(2, 2, 5, (3, 0), (9, 5), (1, 0), (2, 0)),
+    "shelf_full_disk": bytes_of(2, 2, 5, (4, 2), (5, 3), (6, 4), (1, 0)),
+    "shelf_alone": bytes_of(2, 1, 5, (3, 0), (1, 0), (2, 0)),
+    "shelf_one_slot": bytes_of(1, 1, 5, (8, 0), (6, 0), (4, 0)),
+    "shelf_left_by_film": bytes_of(1, 1, 1, (9, 2), (5, 0), (3, 5), (7, 1)),
+    "shelf_ten_films": bytes_of(3, 3, 5, (40, 0), (21, 2), (7, 0), (65535, 0), (12, 0), (1, 0), (22, 3), (30, 0), (25, 0), (9, 0),
+                                (20, 5), (50, 0), (3, 0)),
     "bytes_0": b"",
     "bytes_11": bytes_of(1, 1, 1)[:11],
     "bytes_11_bad_rack": bytes_of(65, 1, 1)[:11],
@@ -124,20 +114,28 @@ FILES = {
 KEPT = 8219
 LONG = [12 + 8192, 12 + 8200, 12 + 8203, 12 + 8208, 12 + 8211, 1048576, 12 + 1048576]
 
-# What document 01 prints or says of its cases.
+# What the documents print or say of their cases, and the shelf cases worked out by hand.
 PRINTED = {
     "case_b": "(rack 1 2 5)\n(disk 1)\n(left)\n(served 0 0)\n",
     "case_c": "(rack 2 1 2)\n(disk 1 (2 2))\n(disk 2 (2 1))\n(left (1 1))\n(served 3 1)\n",
     "case_d": "(rack 1 3 10)\n(disk 1 (1 4) (2 6))\n(left (3 10))\n(served 10 10)\n",
     "case_e": "(rack 2 2 10)\n(disk 1 (3 4) (2 6))\n(disk 2 (1 3) (2 7))\n(left)\n(served 20 0)\n",
     "case_f": "(rack 2 2 5)\n(disk 1 (9 5))\n(disk 2 (9 5))\n(left (9 999990))\n(served 10 999990)\n",
-    "case_g": "(rack 1 4 9)\n(disk 1 (1 2) (2 3))\n(left)\n(served 5 0)\n",
+    "case_g": "(rack 1 4 9)\n(disk 1 (1 2) (2 3) (4 0))\n(left)\n(served 5 0)\n",
     "case_h": "(rack 1 1 5)\n(disk 1 (2 5))\n(left (7 5))\n(served 5 5)\n",
     "case_i": "(refused 6 2)\n",
     "disks_65": "(refused 1)\n",
     "film_65536": "(refused 4 1)\n",
     "demand_1000001": "(refused 5 3)\n",
     "bytes_11": "(refused 2)\n",
+    "shelf_left": "(rack 1 1 5)\n(disk 1 (7 5))\n(left (2 0))\n(served 5 0)\n",
+    "shelf_ascending": "(rack 2 2 5)\n(disk 1 (9 5) (1 0))\n(disk 2 (2 0) (3 0))\n(left)\n(served 5 0)\n",
+    "shelf_full_disk": "(rack 2 2 5)\n(disk 1 (4 2) (5 3))\n(disk 2 (6 4) (1 0))\n(left)\n(served 9 0)\n",
+    "shelf_alone": "(rack 2 1 5)\n(disk 1 (1 0))\n(disk 2 (2 0))\n(left (3 0))\n(served 0 0)\n",
+    "shelf_one_slot": "(rack 1 1 5)\n(disk 1 (4 0))\n(left (6 0) (8 0))\n(served 0 0)\n",
+    "shelf_left_by_film": "(rack 1 1 1)\n(disk 1 (7 1))\n(left (3 5) (5 0) (9 2))\n(served 1 7)\n",
+    "shelf_ten_films": "(rack 3 3 5)\n(disk 1 (21 2) (22 3) (1 0))\n(disk 2 (20 5) (3 0) (7 0))\n(disk 3 (9 0) (12 0) (25 0))\n"
+                       "(left (30 0) (40 0) (50 0) (65535 0))\n(served 10 0)\n",
 }
 
 
