@@ -1,5 +1,5 @@
 #!/usr/bin/env python3
-"""Makes the cases of crates/text_check/data from document 01: texts to read and tables to write.
+"""Makes the cases of crates/text_check/data from documents 01 and 02: texts to read and tables to write.
 
 A case is a line of nine numbers, in columns of seven and the last of eleven, and a label: where the next case starts, where the
 label ends, where the bytes given start and how many they are, the length of the text, the byte FILL, WHAT, PLACE and VALUE. Behind
@@ -29,6 +29,14 @@ CASE_A = b"""(rack 3 4 6)
 """
 SMALL = b"(rack 1 2 5)\n(disk 1 (7 4))\n(left (3 9))\n(served 4 9)\n"
 EMPTY = b"(rack 2 1 2)\n(disk 1)\n(disk 2)\n(left)\n(served 0 0)\n"
+# Copies with 0 viewers, and left films with amount 0, in all places of a line.
+SHELF = b"""(rack 3 3 5)
+(disk 1 (9 5) (1 0))
+(disk 2 (7 0) (2 3) (3 2))
+(disk 3 (5 0) (4 0))
+(left (6 0) (8 4) (10 0))
+(served 10 4)
+"""
 MIXED = (b"(rack 3 2 65535)\n(disk 1 (65535 65534) (1 1))\n(disk 2)\n(disk 3 (100 90))\n"
          b"(left (1 1000000) (100 10) (65535 999999))\n(served 65625 2000009)\n")
 
@@ -173,7 +181,7 @@ def kinds(text):
 
 def lines_file():
     c = Cases()
-    for name, text in (("case_a", CASE_A), ("small", SMALL), ("empty", EMPTY), ("mixed", MIXED)):
+    for name, text in (("case_a", CASE_A), ("small", SMALL), ("empty", EMPTY), ("mixed", MIXED), ("shelf", SHELF)):
         c.add(name, text)
     for name, text in (("small", SMALL), ("empty", EMPTY)):
         ls = text.split(b"\n")[:-1]
@@ -210,6 +218,43 @@ def lines_file():
                         ("one_line", SMALL.replace(b"\n", b" ")), ("wide", SMALL.decode().encode("utf-16-le"))):
         c.add(label, text)
     c.write("lines")
+
+
+# ---- copies with 0 viewers and left films with amount 0 ----
+
+def zero_viewers(c):
+    """Disks of three slots and load 5 with copies of 0 viewers, and one of 32 slots."""
+    for label, copies in (("first", [(7, 0), (1, 2), (2, 3)]), ("between", [(1, 2), (7, 0), (2, 3)]),
+                          ("last", [(1, 2), (2, 3), (7, 0)]), ("alone", [(7, 0)]), ("all", [(3, 0), (1, 0), (2, 0)]),
+                          ("one_too_many", [(1, 0), (2, 0), (3, 0), (4, 0)]), ("then_load_exceeded", [(7, 0), (1, 6)]),
+                          ("after_load_exceeded", [(1, 6), (7, 0)]), ("film_twice", [(7, 0), (7, 0)]),
+                          ("film_apart", [(7, 0), (8, 0), (7, 0)]), ("film_then_viewers", [(7, 0), (7, 1)]),
+                          ("film_after_viewers", [(7, 1), (7, 0)]), ("film_0", [(0, 0)]), ("film_0_first", [(0, 0), (1, 1)]),
+                          ("film_0_last", [(1, 1), (0, 0)]), ("film_65535", [(65535, 0)]), ("film_65536", [(65536, 0)])):
+        c.add("zero_viewers_" + label, text_of(1, 3, 5, {1: copies}, []))
+    for n in (32, 33):
+        c.add("zero_viewers_%d_of_32" % n, text_of(1, 32, 1, {1: [(f, 0) for f in range(1, n + 1)]}, []))
+
+
+def zero_amounts(c):
+    """Left films with amount 0."""
+    for label, left in (("first", [(1, 0), (2, 3), (3, 4)]), ("between", [(1, 3), (2, 0), (3, 4)]),
+                        ("last", [(1, 3), (2, 4), (3, 0)]), ("alone", [(3, 0)]), ("all", [(1, 0), (2, 0), (65535, 0)]),
+                        ("beside_1000000", [(1, 0), (2, 1000000), (3, 0)]), ("beside_1000001", [(1, 0), (2, 1000001), (3, 0)]),
+                        ("film_twice", [(7, 0), (7, 0)]), ("film_then_amount", [(7, 0), (7, 1)]),
+                        ("descending", [(8, 0), (7, 0)]), ("film_0", [(0, 0)]), ("film_65536", [(65536, 0)])):
+        c.add("zero_amount_" + label, text_of(1, 3, 5, {}, left))
+
+
+def zeros(c):
+    """Both in one text, zero in two digits, and sums that count a zero."""
+    zero_viewers(c)
+    zero_amounts(c)
+    c.add("zero_film_on_two_disks_and_left", text_of(2, 1, 5, {1: [(7, 0)], 2: [(7, 0)]}, [(7, 0)]))
+    for film in (1, 7, 6, 10):
+        c.add("shelf_film_%d_two_zeros" % film, SHELF.replace(b"(%d 0)" % film, b"(%d 00)" % film))
+    for s, u in ((11, 4), (10, 5)):
+        c.add("served_%d_%d_of_shelf" % (s, u), SHELF.replace(b"served 10 4", b"served %d %d" % (s, u)))
 
 
 # ---- numbers at and beyond each limit ----
@@ -264,6 +309,7 @@ def limits_file():
     for d in (0, 2, 3, 9, 10, 11, 64, 65, 100) + big:
         c.add("disk_%d_for_1" % d, text_of(12, 1, 1, {}, []).replace(b"(disk 1)", b"(disk %d)" % d))
         c.add("disk_%d_for_12" % d, text_of(12, 1, 1, {}, []).replace(b"(disk 12)", b"(disk %d)" % d))
+    zeros(c)
     c.add("disk_01_for_1", text_of(12, 1, 1, {}, []).replace(b"(disk 1)", b"(disk 01)"))
     c.add("disks_one_more", text_of(3, 1, 1, {}, []).replace(b"rack 3", b"rack 2"))
     c.add("disks_one_fewer", text_of(3, 1, 1, {}, []).replace(b"rack 3", b"rack 4"))
@@ -315,6 +361,8 @@ def long_file():
         c.add("brackets_%d" % total, b"(rack 1 2 5)\n(disk 1 ", total, 40)
         c.add("letters_%d" % total, b"(", total, 114)
     c.add("largest_one_film_more", text.replace(b"(left (", b"(left (1 1) ("))
+    for n in (1024, 1025):
+        c.add("zero_amounts_%d" % n, text_of(1, 1, 1, {}, [(f, 0) for f in range(1, n + 1)]))
     c.write("long")
 
 
@@ -323,9 +371,9 @@ def long_file():
 def lending_file():
     c = Cases()
     for name, text, copies, disks, left in (("case_a", CASE_A, 12, 3, 2), ("small", SMALL, 2, 1, 1), ("empty", EMPTY, 2, 2, 0),
-                                            ("largest", largest(), 2048, 64, 1024)):
+                                            ("shelf", SHELF, 9, 3, 3), ("largest", largest(), 2048, 64, 1024)):
         for table, what, needed in (("copies", LEND_COPIES, copies), ("counts", LEND_COUNTS, disks), ("left", LEND_LEFT, left)):
-            sizes = (needed - 1, needed) if name == "largest" else (0, needed - 1, needed, needed + 1)
+            sizes = (needed - 1, needed) if name in ("shelf", "largest") else (0, needed - 1, needed, needed + 1)
             if name == "largest" and table == "counts":
                 continue
             for size in sorted(set(x for x in sizes if x >= 0)):
@@ -373,6 +421,15 @@ def writing_file():
     sets("case_a", CASE_A, SET_LEFT_FILM, "left_film", 0, (1, 2, 3))
     sets("case_a", CASE_A, SET_LEFT_FILM, "left_film", 1, (0, 1, 2, 65535, 65536))
     sets("case_a", CASE_A, SET_LEFT, "left", 0, (0, 1, 2, 3))
+    c.add("shelf", SHELF)
+    sets("shelf", SHELF, SET_VIEWERS, "viewers", 1, (1,))
+    sets("shelf", SHELF, SET_FILM, "film", 1, (0, 9))
+    sets("shelf", SHELF, SET_FILM, "film", 2, (2,))
+    sets("shelf", SHELF, SET_COUNT, "count", 0, (1, 3))
+    sets("shelf", SHELF, SET_COUNT, "count", 2, (0,))
+    sets("shelf", SHELF, SET_LEFT_AMOUNT, "left_amount", 0, (1000000, 1000001))
+    sets("shelf", SHELF, SET_LEFT_FILM, "left_film", 2, (0, 8))
+    sets("shelf", SHELF, SET_LEFT, "left", 0, (2,))
     for name, text, copies, disks, left in (("case_a", CASE_A, 12, 3, 2), ("small", SMALL, 2, 1, 1), ("empty", EMPTY, 2, 2, 0)):
         for table, what, needed in (("copies", LEND_COPIES, copies), ("counts", LEND_COUNTS, disks), ("left", LEND_LEFT, left),
                                     ("space", LEND_SPACE, len(text))):

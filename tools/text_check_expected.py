@@ -1,5 +1,5 @@
 #!/usr/bin/env python3
-"""Prints what the program text_check has to print, from a reader and a writer written here from document 01's words alone.
+"""Prints what the program text_check has to print, from a reader and a writer of document 01's and 02's words alone.
 
 They share nothing with the proved reader and writer. This reader splits the text at its line feeds and holds each line against
 its form as a whole; this writer joins lines. The cases are those of crates/text_check/data.
@@ -24,7 +24,7 @@ LEFT_LINE = re.compile(rb"\(left((?:" + PAIR + rb")*)\)")
 SERVED_LINE = re.compile(rb"\(served " + NUMBER + rb" " + NUMBER + rb"\)")
 
 
-# ---- document 01: well-formed plans, writing, reading ----
+# ---- document 01 and 02's request P1: well-formed plans, writing, reading ----
 
 def rack_ok(disks, slots, streams):
     return 1 <= disks <= 64 and 1 <= slots <= 32 and 1 <= streams <= 65535
@@ -37,13 +37,13 @@ def film_ok(film):
 def copies_ok(slots, streams, copies):
     films = [f for f, _ in copies]
     return (len(copies) <= slots and len(set(films)) == len(films) and all(film_ok(f) for f in films)
-            and all(v >= 1 for _, v in copies) and sum(v for _, v in copies) <= streams)
+            and sum(v for _, v in copies) <= streams)
 
 
 def left_ok(left):
     films = [f for f, _ in left]
     return (len(left) <= 1024 and all(a < b for a, b in zip(films, films[1:])) and all(film_ok(f) for f in films)
-            and all(1 <= a <= 1_000_000 for _, a in left))
+            and all(a <= 1_000_000 for _, a in left))
 
 
 def render(disks, slots, streams, copies, left):
