@@ -29,7 +29,7 @@ def fill(films, slots, load):
 
 
 def shelve(disks, slots, films):
-    """Puts films of demand 0 on the disks that have a free slot, and answers those for which none has, with amount 0."""
+    """Puts films of demand 0, by ascending number, each on the lowest disk with a free slot; answers those that find none."""
     left = []
     for film in sorted(films):
         with_room = [copies for copies in disks if len(copies) < slots]
