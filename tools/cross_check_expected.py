@@ -123,8 +123,9 @@ class Case:
 
     def unwanted(self, i):
         """Whether the demand of record i is turned to 0. Of 16 cases one turns all, three turn one in 2, two turn one in 4."""
-        one_in = {0: 1, 1: 2, 2: 2, 3: 2, 4: 4, 5: 4}.get(draw(self.number, 16, 16), 0)
-        return one_in > 0 and draw(self.number, 4_000 + i, one_in) == 0
+        of_4 = (4, 2, 2, 2, 1, 1)
+        case = draw(self.number, 16, 16)
+        return case < len(of_4) and draw(self.number, 4_000 + i, 4) < of_4[case]
 
     def demand(self, i):
         if 12 in self.faults and i == draw(self.number, 8, self.records):

@@ -101,18 +101,6 @@ pub(crate) fn folds(number: u64) -> u32 {
     if number % 10 == 2 { 3 } else { 1 }
 }
 
-// One in how many records has its demand turned to 0, or 0 for none: of 16 cases one turns all, three turn one in 2, two turn
-// one in 4.
-pub(crate) fn unwanted(number: u64) -> u32 {
-    let lot = draw(number, 16, 16);
-    match lot {
-        0 => 1,
-        1..=3 => 2,
-        4 | 5 => 4,
-        _ => 0,
-    }
-}
-
 // The first fault of a case of families 8 and 9, or 15 for none.
 pub(crate) fn first_fault(number: u64) -> u32 {
     if number % 10 < 8 {

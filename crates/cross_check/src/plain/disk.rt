@@ -10,6 +10,7 @@ use crate::plain::memory::number_of;
 use crate::plain::memory::plus;
 use crate::plain::memory::put;
 use crate::plain::ranks::Term;
+use crate::plain::ranks::if_so;
 use crate::plain::ranks::place_of;
 use crate::plain::ranks::put_in_order;
 use crate::plain::ranks::total;
@@ -53,17 +54,13 @@ fn viewers_at(m: &[u64], start: usize, i: usize, is_last: bool, load: u64) -> u6
     std::num::wrapping_sub_u64(load, before)
 }
 
-// A record after viewers are taken from it: a film of which nothing is left leaves the records.
-fn rest_of(entry: u64, viewers: u64) -> u64 {
-    let rest = std::num::wrapping_sub_u64(entry, viewers << 32);
-    if number_of(rest) > 0 { rest } else { 0 }
-}
-
-// Stores a copy in a place, and takes its viewers from the record of its film, one of n.
+// Stores a copy in a place, and takes its viewers from the record of its film, one of n. A film of which nothing is left leaves
+// the records.
 pub(crate) fn store(m: &mut [u64], n: usize, place: usize, film: u64, viewers: u64) {
     let i = place_of(m, n, film);
     put(m, place, film | (viewers << 32));
-    put(m, i, rest_of(at(m, i), viewers));
+    let rest = std::num::wrapping_sub_u64(at(m, i), viewers << 32);
+    put(m, i, if_so(number_of(rest) > 0, rest));
 }
 
 // Fills slot j of a disk from a window of so many films, with a zero entry behind the window.

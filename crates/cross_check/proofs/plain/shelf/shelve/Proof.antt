@@ -1,0 +1,18 @@
+-- `shelve` is safe and ends.
+use Prim.Native.Nat.{_≤_, _-_}
+use mathlib.Core.Path.{_≡_}
+use lib.ListN.{length}
+use borrow.Author.Needs.{needs}
+use Rattle.cross_check.proofs.plain.shelf.shelve.Statement.{statement}
+use Rattle.cross_check.proofs.plain.shelf.shelve.Tie as tie
+
+abbrev Inv-loop : tie.InvT-loop
+Inv-loop n m₀ entry disks slots place₀ i₀ m place i = (i ≤ disks) × (length m ≡ length m₀)
+
+abbrev μ-loop : tie.MeasureT-loop
+μ-loop n m₀ entry disks slots place₀ i₀ m place i = disks - i
+
+pub shelve-spec : {M : Type 1} → statement M
+shelve-spec =
+    tie.close
+    (tie.spec Inv-loop μ-loop (λ c κs. search needs) (λ c. search needs) (λ c. search needs) (λ c. search needs) (λ c. search needs) (λ c κs. search needs) (λ c κs. search needs) (λ c κs. search needs) (λ c κs. search needs) (λ c. search needs) (λ c κs. search needs) (λ c. search needs) (λ c. search needs) (λ c κs. search needs) (λ c. search needs) (λ c. search needs) (λ c. search needs) (λ c. search needs) (λ c. search needs))
