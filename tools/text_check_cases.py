@@ -181,7 +181,7 @@ def kinds(text):
 
 def lines_file():
     c = Cases()
-    for name, text in (("case_a", CASE_A), ("small", SMALL), ("empty", EMPTY), ("mixed", MIXED), ("shelf", SHELF)):
+    for name, text in (("case_a", CASE_A), ("small", SMALL), ("empty", EMPTY), ("mixed", MIXED)):
         c.add(name, text)
     for name, text in (("small", SMALL), ("empty", EMPTY)):
         ls = text.split(b"\n")[:-1]
@@ -217,6 +217,7 @@ def lines_file():
                         ("capitals", SMALL.upper()), ("tabs", SMALL.replace(b" ", b"\t")),
                         ("one_line", SMALL.replace(b"\n", b" ")), ("wide", SMALL.decode().encode("utf-16-le"))):
         c.add(label, text)
+    c.add("shelf", SHELF)
     c.write("lines")
 
 
@@ -309,7 +310,6 @@ def limits_file():
     for d in (0, 2, 3, 9, 10, 11, 64, 65, 100) + big:
         c.add("disk_%d_for_1" % d, text_of(12, 1, 1, {}, []).replace(b"(disk 1)", b"(disk %d)" % d))
         c.add("disk_%d_for_12" % d, text_of(12, 1, 1, {}, []).replace(b"(disk 12)", b"(disk %d)" % d))
-    zeros(c)
     c.add("disk_01_for_1", text_of(12, 1, 1, {}, []).replace(b"(disk 1)", b"(disk 01)"))
     c.add("disks_one_more", text_of(3, 1, 1, {}, []).replace(b"rack 3", b"rack 2"))
     c.add("disks_one_fewer", text_of(3, 1, 1, {}, []).replace(b"rack 3", b"rack 4"))
@@ -322,6 +322,7 @@ def limits_file():
                 text = text.replace(old, old[:-1] + digits)
                 text = text.replace(b"((", b"(") if where == "film" else text
                 c.add("%s_%d_%s" % (where, n, label), text)
+    zeros(c)
     c.write("limits")
 
 
@@ -421,15 +422,6 @@ def writing_file():
     sets("case_a", CASE_A, SET_LEFT_FILM, "left_film", 0, (1, 2, 3))
     sets("case_a", CASE_A, SET_LEFT_FILM, "left_film", 1, (0, 1, 2, 65535, 65536))
     sets("case_a", CASE_A, SET_LEFT, "left", 0, (0, 1, 2, 3))
-    c.add("shelf", SHELF)
-    sets("shelf", SHELF, SET_VIEWERS, "viewers", 1, (1,))
-    sets("shelf", SHELF, SET_FILM, "film", 1, (0, 9))
-    sets("shelf", SHELF, SET_FILM, "film", 2, (2,))
-    sets("shelf", SHELF, SET_COUNT, "count", 0, (1, 3))
-    sets("shelf", SHELF, SET_COUNT, "count", 2, (0,))
-    sets("shelf", SHELF, SET_LEFT_AMOUNT, "left_amount", 0, (1000000, 1000001))
-    sets("shelf", SHELF, SET_LEFT_FILM, "left_film", 2, (0, 8))
-    sets("shelf", SHELF, SET_LEFT, "left", 0, (2,))
     for name, text, copies, disks, left in (("case_a", CASE_A, 12, 3, 2), ("small", SMALL, 2, 1, 1), ("empty", EMPTY, 2, 2, 0)):
         for table, what, needed in (("copies", LEND_COPIES, copies), ("counts", LEND_COUNTS, disks), ("left", LEND_LEFT, left),
                                     ("space", LEND_SPACE, len(text))):
@@ -442,6 +434,15 @@ def writing_file():
     sets("largest", largest(), SET_LEFT_AMOUNT, "left_amount", 1023, (1000001, 1))
     c.add("largest_lent_space_43884", largest(), what=LEND_SPACE, value=43884)
     c.add("largest_lent_space_43885", largest(), what=LEND_SPACE, value=43885)
+    c.add("shelf", SHELF)
+    sets("shelf", SHELF, SET_VIEWERS, "viewers", 1, (1,))
+    sets("shelf", SHELF, SET_FILM, "film", 1, (0, 9))
+    sets("shelf", SHELF, SET_FILM, "film", 2, (2,))
+    sets("shelf", SHELF, SET_COUNT, "count", 0, (1, 3))
+    sets("shelf", SHELF, SET_COUNT, "count", 2, (0,))
+    sets("shelf", SHELF, SET_LEFT_AMOUNT, "left_amount", 0, (1000000, 1000001))
+    sets("shelf", SHELF, SET_LEFT_FILM, "left_film", 2, (0, 8))
+    sets("shelf", SHELF, SET_LEFT, "left", 0, (2,))
     c.write("writing")
 
 
