@@ -1,17 +1,18 @@
 -- The words of demand 3 on document 01's cases: what its fields give and what they refuse.
-use mathlib.Core.Path.{_≡_, refl}
+use mathlib.Core.Path.{_≡_, refl, ap}
 use mathlib.Core.List.{List, [], _∷_}
 use Prim.Native.Nat.{ℕ, _+_, _≤_}
 use native.Mathlib.Omega.{arith}
-use lib.ListN.{length}
+use lib.ListN.{length, getD}
 use Rattle.placement.specs.Items.{Item, listOf, wanted, occurrences, _∶_}
 use Rattle.placement.specs.Rack.{rackOf, allSlots}
-use Rattle.placement.specs.Method.{unserved}
+use Rattle.placement.specs.Method.{unserved, placement}
 use Rattle.placement.specs.Sharing.{Sharing}
 use Rattle.placement.specs.Promise.{Distinct, Fitting, Demand3, unservedSide, servedSide}
-use Rattle.placement.specs.Demand3Words.{disksA, demandsA, copiesA, disksC, demandsC, copiesC, disksE, demandsE, copiesE, disksH, demandsH}
+use Rattle.placement.specs.Demand3Words.{disksA, demandsA, copiesA, disksC, demandsC, copiesC, disksE, demandsE, copiesE, disksG, demandsG, copiesG, disksH, demandsH}
 use Rattle.placement.proofs.Films.{distinct-new}
 use Rattle.placement.proofs.Demand3.{demand3-rack}
+use Rattle.placement.proofs.ShelfSharing.{demand3-shelved}
 
 -- How often the films of a list stand again behind themselves.
 abbrev repeats : List Item → ℕ
@@ -34,6 +35,22 @@ demand3-C = demand3-rack 2 1 2 demandsC (omega arith) (omega arith) (repeats-non
 -- It holds for E's, with S = 20 and the U that the method leaves.
 pub demand3-E : Demand3 2 disksE demandsE copiesE 20 (unserved disksE (listOf demandsE))
 demand3-E = demand3-rack 2 2 10 demandsE (omega arith) (omega arith) (repeats-none demandsE refl)
+
+-- It holds for G's, the shelf copy of film 4 included, with S = 5 and U = 0.
+pub demand3-G : Demand3 4 disksG demandsG copiesG 5 0
+demand3-G =
+    demand3-shelved (4 ∶ 0 ∷ []) (placement disksG (listOf demandsG)) ((refl, refl), tt)
+    (demand3-rack 1 4 9 demandsG (omega arith) (omega arith) (repeats-none demandsG refl))
+
+-- A sharing of G gives the shelf copy nobody, ...
+pub nobody-G : Sharing disksG demandsG copiesG ((1 ∶ 2 ∷ 2 ∶ 3 ∷ 4 ∶ 1 ∷ []) ∷ []) → ⊥
+nobody-G sharing = omega (arith, sharing .withinDemands 4)
+
+-- ... and has it: without it the copies are others.
+pub left-out-G : Sharing disksG demandsG copiesG ((1 ∶ 2 ∷ 2 ∶ 3 ∷ []) ∷ []) → ⊥
+left-out-G sharing =
+    let z : _≡_ {A = ℕ} 2 3 = ap (λ (films : List (List ℕ)). length (getD films 0 [])) (sharing .sameCopies) in
+    absurd (omega arith)
 
 -- A meets demand 3's square with equality.
 pub square-A : unservedSide 4 2 ≡ servedSide 4 16 2

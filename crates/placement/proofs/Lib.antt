@@ -46,6 +46,7 @@ pub mod Entries
 pub mod ByFilm
 pub mod ShelfFilms
 pub mod Viewed
+pub mod LessShares
 pub mod ShelfSharing
 pub mod ShelfFormed
 pub mod WindowSums
@@ -58,3 +59,4 @@ pub mod CasesHold
 pub mod AnySharing
 pub mod CasesFit
 pub mod Demand3Words
+pub mod ShelfWords

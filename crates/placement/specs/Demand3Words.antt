@@ -85,6 +85,16 @@ demandsE = 1 ∶ 3 ∷ 3 ∶ 4 ∷ 2 ∶ 13 ∷ []
 abbrev pub copiesE : List (List Item)
 copiesE = placement disksE (listOf demandsE)
 
+-- Case G: its rack and demands, and its copies, of which film 4's is on the shelf.
+abbrev pub disksG : List Disk
+disksG = rackOf 1 4 9
+
+abbrev pub demandsG : List Item
+demandsG = 4 ∶ 0 ∷ 1 ∶ 2 ∷ 2 ∶ 3 ∷ []
+
+abbrev pub copiesG : List (List Item)
+copiesG = (1 ∶ 2 ∷ 2 ∶ 3 ∷ 4 ∶ 0 ∷ []) ∷ []
+
 -- Case H: its rack and demands.
 abbrev pub disksH : List Disk
 disksH = rackOf 1 1 5
