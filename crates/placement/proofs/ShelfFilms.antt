@@ -1,12 +1,12 @@
 -- The films of demand 0 of a list: beside the method's list they make up the records, and no viewer wants them.
-use mathlib.Core.Path.{_≡_, refl, sym, ap, _∙_}
+use mathlib.Core.Path.{_≡_, refl, sym, _∙_}
 use mathlib.Core.Bool.{Bool, true, false, cond}
 use mathlib.Core.List.{List, [], _∷_}
 use Prim.Native.Nat.{ℕ, _+_, _≤_}
 use native.Mathlib.Omega.{arith}
 use borrow.Author.Tests.{leb-false}
 use lib.Dec.{leb, eqb}
-use Rattle.placement.specs.Items.{Item, sumBy, total, amountIf, amountFor, oneIf, occurrences, listOf}
+use Rattle.placement.specs.Items.{Item, sumBy, total, amountFor, oneIf, occurrences, listOf}
 use Rattle.placement.specs.Promise.{Distinct}
 use Rattle.placement.specs.Shelf.{withoutAmount, shelfFilms}
 use Rattle.placement.specs.WellFormed.{Each}

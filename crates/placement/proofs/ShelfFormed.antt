@@ -1,8 +1,8 @@
 -- Shelved layouts are accepted: a shelf copy goes where a slot is free, its film is new to the disk, and it has no viewers.
-use mathlib.Core.Path.{_≡_, refl, ap₂, _∙_}
+use mathlib.Core.Path.{_≡_, refl, ap₂}
 use mathlib.Core.Bool.{Bool, true, false, cond, _||_, true≢false}
 use mathlib.Core.List.{List, [], _∷_, _++_, map}
-use Prim.Native.Nat.{ℕ, suc, _+_, _≤_}
+use Prim.Native.Nat.{ℕ, _+_, _≤_}
 use native.Mathlib.Omega.{arith}
 use borrow.Author.Tests.{ltb-true, ltb-false}
 use lib.ListN.{length, length-append}
@@ -16,9 +16,9 @@ use Rattle.placement.proofs.Conjunctions.{both-true, and-holds, false-t
 use Rattle.placement.proofs.Sums.{sumBy-append}
 use Rattle.placement.proofs.Films.{own-film, distinct-new}
 use Rattle.placement.proofs.Layouts.{together}
-use Rattle.placement.proofs.Each.{each-append, each-map}
+use Rattle.placement.proofs.Each.{each-append}
 use Rattle.placement.proofs.Formed.{disk-count, disk-distinct, disk-entries, disk-load, disk-accepted}
-use Rattle.placement.proofs.Shelving.{Unwanted, shelvedOne-sum}
+use Rattle.placement.proofs.Shelving.{shelvedOne-sum}
 
 -- A disk with a free slot takes a film that it does not have, without viewers.
 end-accepted :

@@ -1,5 +1,5 @@
 -- The plan of accepted records with its shelf copies: its copies are accepted, and what is left are distinct entries.
-use mathlib.Core.Path.{_≡_, refl, ap, _∙_}
+use mathlib.Core.Path.{_≡_, refl}
 use mathlib.Core.Bool.{true}
 use mathlib.Core.List.{List, [], _∷_, _++_}
 use Prim.Native.Nat.{ℕ, _+_, _≤_}
@@ -7,8 +7,7 @@ use native.Mathlib.Omega.{arith}
 use lib.ListN.{length}
 use Rattle.placement.specs.Items.{Item, sumBy, total, amountOf, oneIf, occurrences, listOf}
 use Rattle.placement.specs.Rack.{Disk, mostDemand}
-use Rattle.placement.specs.Disk.{copiesOf, listAfter}
-use Rattle.placement.specs.Window.{within, windowOf}
+use Rattle.placement.specs.Disk.{listAfter}
 use Rattle.placement.specs.Method.{placement, remaining, unserved}
 use Rattle.placement.specs.Plan.{disksAccepted}
 use Rattle.placement.specs.Promise.{Distinct}
@@ -19,7 +18,7 @@ use Rattle.placement.proofs.Films.{Usable, after-occurrences}
 use Rattle.placement.proofs.Layouts.{together, sameCopies-onWindows, onWindows-absent}
 use Rattle.placement.proofs.Listed.{listOf-distinct}
 use Rattle.placement.proofs.Each.{each-map, each-both, each-append}
-use Rattle.placement.proofs.Shelving.{Unwanted, shelved-sum, unshelved-sum, each-unshelved}
+use Rattle.placement.proofs.Shelving.{Unwanted, unshelved-sum, each-unshelved}
 use Rattle.placement.proofs.ShelfFilms.{unwanted-total, shelf-sum, shelf-unwanted, shelf-each}
 use Rattle.placement.proofs.ShelfFormed.{shelved-accepted}
 use Rattle.placement.proofs.WellFormed.{listOf-entries, placement-accepted, remaining-entries, remaining-count}

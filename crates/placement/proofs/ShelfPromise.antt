@@ -1,14 +1,12 @@
 -- The promise of shelf copies: every film of the list has a copy or is left, and all but the shelf copies is the method's.
 use mathlib.Core.Path.{_≡_, refl}
-use mathlib.Core.Bool.{Bool, true, false, cond}
 use mathlib.Core.List.{List, [], _∷_}
 use Prim.Native.Nat.{ℕ, _+_, _≤_}
 use native.Mathlib.Omega.{arith}
-use lib.Dec.{leb}
 use Rattle.placement.specs.Items.{Item, oneIf, occurrences, listOf, amountFor, byFilm}
 use Rattle.placement.specs.Rack.{Disk}
 use Rattle.placement.specs.Window.{within, windowOf}
-use Rattle.placement.specs.Disk.{remainder, copiesOf, listAfter}
+use Rattle.placement.specs.Disk.{copiesOf, listAfter}
 use Rattle.placement.specs.Method.{placement, remaining}
 use Rattle.placement.specs.Shelf.{shelfFilms, shelved}
 use Rattle.placement.specs.ShelfPromise.{copyCount, ShelfPromise}

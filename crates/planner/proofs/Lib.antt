@@ -3,6 +3,7 @@ pub mod Ascending
 pub mod Places
 pub mod SortedKeys
 pub mod ShelfOrder
+pub mod UnwantedFirst
 pub mod Building
 pub mod ShelvesByDisk
 pub mod Runs
@@ -18,7 +19,9 @@ pub mod RackRanges
 pub mod WrittenTo
 pub mod FilledTo
 pub mod ShelvedTo
+pub mod ShelvedMore
 pub mod ShelfTables
+pub mod ShelfSteps
 pub mod KeyRuns
 pub mod LeftFilms
 pub mod KeysAgain

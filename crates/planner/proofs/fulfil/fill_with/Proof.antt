@@ -13,7 +13,8 @@ use Rattle.placement.specs.Planning.{recordsIn}
 use Rattle.placement.specs.WellFormed.{Each, Entry}
 use Rattle.placement.proofs.ReadBack.{front-length}
 use Rattle.placement.proofs.WellFormed.{listOf-entries}
-use Rattle.planner.proofs.Fulfilled.{filled-laid, copies-planned, counts-planned, left-small, left-films, steps-tables, steps-numbers}
+use Rattle.planner.proofs.ShelfSteps.{filled-laid, copies-planned, counts-planned}
+use Rattle.planner.proofs.Fulfilled.{left-small, left-films, steps-tables, steps-numbers}
 use Rattle.planner.proofs.fulfil.fill_with.Proof.Parts.{start, called, entry, films, listed, films-most, room, list-is, built, copies-filled, counts-filled, keys-length, films-are, filled, rest, run, left-run, run-room, few}
 use Rattle.planner.proofs.fulfil.fill_with.Statement.{statement}
 use Rattle.planner.proofs.fulfil.fill_with.Tie as tie

@@ -8,14 +8,15 @@ use lib.ListN.{length, take, drop, length-take, length-drop}
 use Rattle.placement.specs.Items.{Item, listOf}
 use Rattle.placement.specs.Rack.{disksOf, mostRecords}
 use Rattle.placement.specs.Records.{recordCount}
-use Rattle.placement.specs.Method.{placement, remaining, served}
+use Rattle.placement.specs.Method.{placement, remaining}
 use Rattle.placement.specs.Shelf.{shelfFilms}
 use Rattle.placement.specs.Tables.{Tables, tables, written, places}
 use Rattle.placement.specs.Planning.{Call, call, recordsIn, placedIn, leftIn}
 use Rattle.placement.proofs.ReadBack.{front-length}
 use Rattle.planner.specs.Keys.{itemsOf}
 use Rattle.planner.proofs.KeyRuns.{items-front, items-behind, films-kept, parts-length, run-left}
-use Rattle.planner.proofs.Fulfilled.{films-few, left-is, left-count}
+use Rattle.planner.proofs.ShelfSteps.{left-is}
+use Rattle.planner.proofs.Fulfilled.{films-few, left-count}
 use Rattle.planner.proofs.fulfil.fill_with.Tie as tie
 
 -- The start, the call and the tables at entry, as they are seen once the list is built.
