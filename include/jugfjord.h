@@ -19,6 +19,9 @@
  * from place (d - 1) * slots on. Planning and reading set the unused copy places to 0, and writing asks for that.
  * JUGFJORD_MOST_COPIES, JUGFJORD_MOST_DISKS and JUGFJORD_MOST_LEFT places are always enough.
  *
+ * A copy with 0 viewers is a shelf copy: planning stores a film of demand 0 where a slot is free, behind the disk's other
+ * copies, and else leaves it with amount 0.
+ *
  * `served` is the sum of viewers over all copies, `unserved` what is left in sum.
  *
  * Link with libjugfjord.a, for x86-64 Linux: `pkg-config --cflags --libs jugfjord` after `./install`, or
@@ -34,9 +37,9 @@
 extern "C" {
 #endif
 
-#define JUGFJORD_VERSION "0.2.0"
+#define JUGFJORD_VERSION "0.3.0"
 #define JUGFJORD_VERSION_MAJOR 0
-#define JUGFJORD_VERSION_MINOR 2
+#define JUGFJORD_VERSION_MINOR 3
 #define JUGFJORD_VERSION_PATCH 0
 
 #define JUGFJORD_MOST_COPIES 2048 /* disks times slots */
@@ -81,7 +84,7 @@ struct jugfjord_planned {
     uint32_t second;
     uint64_t served;
     uint64_t unserved;
-    uint32_t left; /* left films in the left table */
+    uint32_t left; /* left films in the left table, those of amount 0 too */
 };
 
 /* Plans by the sliding-window method. `list` has eight bytes a record: film number, then demand, each 32 bits, least
