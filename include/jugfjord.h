@@ -19,8 +19,9 @@
  * from place (d - 1) * slots on. Planning and reading set the unused copy places to 0, and writing asks for that.
  * JUGFJORD_MOST_COPIES, JUGFJORD_MOST_DISKS and JUGFJORD_MOST_LEFT places are always enough.
  *
- * A copy with 0 viewers is a shelf copy: planning stores a film of demand 0 where a slot is free, behind the disk's other
- * copies, and else leaves it with amount 0.
+ * A copy with 0 viewers is a shelf copy. Planning takes the films of demand 0 in ascending number and stores each on the
+ * lowest disk with a free slot, behind its other copies; with no free slot the film is left with amount 0. So an entry with
+ * amount 0 may be a film: go by `counts` and by the number of left films.
  *
  * `served` is the sum of viewers over all copies, `unserved` what is left in sum.
  *

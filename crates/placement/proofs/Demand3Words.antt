@@ -1,6 +1,6 @@
 -- The words of demand 3 on document 01's cases: what its fields give and what they refuse.
 use mathlib.Core.Path.{_≡_, refl, ap}
-use mathlib.Core.List.{List, [], _∷_}
+use mathlib.Core.List.{List, [], _∷_, _++_}
 use Prim.Native.Nat.{ℕ, _+_, _≤_}
 use native.Mathlib.Omega.{arith}
 use lib.ListN.{length, getD}
@@ -79,6 +79,10 @@ slots-E = refl
 -- So whatever copies meet demand 3 for it leave nobody unserved, ...
 pub all-served-E : (layout : List (List Item)) (s u : ℕ) → Demand3 2 disksE demandsE layout s u → u ≡ 0
 all-served-E layout s u promised = promised .allServed fitting-E (omega (arith, slots-E))
+
+-- ... also where the list has a film more that nobody wants, ...
+pub unwanted-film-E : (layout : List (List Item)) (s u : ℕ) → Demand3 2 disksE (demandsE ++ (5 ∶ 0 ∷ [])) layout s u → u ≡ 0
+unwanted-film-E layout s u promised = promised .allServed (record { load = omega arith; slots = omega arith }) (omega arith)
 
 -- ... and the plan does not.
 pub unserved-E : unserved disksE (listOf demandsE) ≡ 0

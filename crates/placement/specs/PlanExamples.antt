@@ -26,6 +26,7 @@ formedPlans =
     ∷ plan (rackOf 64 32 65535) (replicate 64 (films 1 32)) []
     ∷ small (item 7 0 ∷ item 8 5 ∷ []) (item 2 0 ∷ item 7 1 ∷ [])
     ∷ small (item 7 5 ∷ item 8 0 ∷ []) (item 1 1 ∷ item 65535 0 ∷ [])
+    ∷ plan (rackOf 2 2 5) ((item 7 0 ∷ item 8 0 ∷ []) ∷ (item 7 5 ∷ item 8 0 ∷ []) ∷ []) (item 7 0 ∷ item 8 0 ∷ [])
     ∷ []
 
 -- By rule: the rack, the lists of copies, the copies of a disk, what is left.

@@ -29,7 +29,7 @@ pub record ShelfPromise (rack : List Disk) (records : List Item) (layout : List 
   pub leaves : withAmount left ≡ leftOf rack (listOf records)
   -- every film of the list has a copy or is left
   pub present : (f : ℕ) → 1 ≤ occurrences f records → 1 ≤ copyCount f layout + occurrences f left
-  -- a film of demand 0 does not have both, and no film has either that is not in the list
+  -- a film of demand 0 has one copy or is left, not both, and no film has either that is not in the list
   pub once : (f : ℕ) → amountFor f records ≡ 0 → copyCount f layout + occurrences f left ≡ occurrences f records
   -- a film of demand 0 is left only if every slot of every disk is taken
   pub slotsTaken :

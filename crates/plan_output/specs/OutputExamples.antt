@@ -1,8 +1,8 @@
--- Inputs of the program `plan` and what it prints, case A of document 01 whole among them.
+-- Inputs of the program `plan` and what it prints, cases A and G of document 01 whole among them.
 use Prim.Native.Nat.{ℕ}
 use mathlib.Core.List.{List, [], _∷_, _++_}
 use lib.ListN.{replicate}
-use Rattle.placement.specs.Cases.{bytes32, caseA, caseI}
+use Rattle.placement.specs.Cases.{bytes32, caseA, caseG, caseI}
 use Rattle.plan_text.specs.Examples.{textLines, caseAText}
 
 pub record Printing : Type 0 where
@@ -19,6 +19,8 @@ inputOf n k l list = bytes32 n ++ (bytes32 k ++ (bytes32 l ++ list))
 abbrev pub printings : List Printing
 printings =
     printing (inputOf 3 4 6 (caseA .asked .list)) caseAText
+    ∷ printing (inputOf 1 4 9 (caseG .asked .list))
+    (textLines ("(rack 1 4 9)" ∷ "(disk 1 (1 2) (2 3) (4 0))" ∷ "(left)" ∷ "(served 5 0)" ∷ []))
     ∷ printing (inputOf 1 1 5 (caseI .asked .list)) (textLines ("(refused 6 2)" ∷ []))
     ∷ printing (inputOf 1 2 5 []) (textLines ("(rack 1 2 5)" ∷ "(disk 1)" ∷ "(left)" ∷ "(served 0 0)" ∷ []))
     ∷ printing (inputOf 1 33 5 []) (textLines ("(refused 1)" ∷ []))
