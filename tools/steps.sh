@@ -7,7 +7,7 @@ made_with='rattle-kit-5b logic 064da1ca440f63e7' # what `rt version` printed whe
 
 # Seconds that each crate's proof takes on two idle cores. Of a crate that is not listed no time is said.
 declare -A seconds_of=(
-    [refusal]=3 [placement]=6 [demand_list]=6 [planner]=30 [plan_text]=3 [well_formed]=8 [writer]=27 [reader]=35
+    [refusal]=3 [placement]=7 [demand_list]=6 [planner]=38 [plan_text]=3 [well_formed]=8 [writer]=27 [reader]=35
     [plan_output]=13 [jugfjord]=10 [plan]=20
 )
 
