@@ -10,6 +10,7 @@ use Rattle.placement.specs.Items.{Item, sumBy, total, amountFor, oneIf, 
 use Rattle.placement.specs.Promise.{Distinct}
 use Rattle.placement.specs.Shelf.{withoutAmount, shelfFilms}
 use Rattle.placement.specs.WellFormed.{Each}
+use Rattle.placement.proofs.Tests.{by-order}
 use Rattle.placement.proofs.Ascending.{Ascending, ascending-weaken, list-ascending}
 use Rattle.placement.proofs.Films.{own-film}
 use Rattle.placement.proofs.Each.{each-map, each-byFilm}
@@ -112,7 +113,14 @@ module _ (records : List Item) where
   listed-absent f none =
       omega (arith, wanted-amount f (listOf records) (ascending-wanted (listOf records) (list-ascending records)), listOf-amountFor f records)
 
-  -- and the films of demand 0 are such films.
+  -- and one with demand is not among the films of demand 0,
+  pub shelf-absent : Distinct records → (f : ℕ) → 1 ≤ amountFor f records → occurrences f (shelfFilms records) ≡ 0
+  shelf-absent distinct f some =
+      by-order (occurrences f (listOf records)) 1
+      (λ none. absurd (omega (arith, absent-amount f (listOf records) (omega arith), listOf-amountFor f records)))
+      (λ here. omega (arith, shelf-sum (oneIf f), distinct f))
+
+  -- which are all films without demand.
   pub shelf-demand : Distinct records → Each (λ x. amountFor (x .film) records ≡ 0) (shelfFilms records)
   shelf-demand distinct =
       each-map (λ x. 1 ≤ occurrences (x .film) (shelfFilms records)) (λ x. amountFor (x .film) records ≡ 0) (shelfFilms records) none

@@ -19,7 +19,7 @@ use Rattle.placement.proofs.Layouts.{together}
 use Rattle.placement.proofs.Listed.{sumBy-le}
 use Rattle.placement.proofs.ByFilm.{sumBy-byFilm}
 use Rattle.placement.proofs.Shelving.{Unwanted, shelved-sum, each-unshelved, unshelved-full}
-use Rattle.placement.proofs.ShelfFilms.{Wanted, ascending-wanted, shelf-sum, shelf-unwanted, listed-absent}
+use Rattle.placement.proofs.ShelfFilms.{Wanted, ascending-wanted, shelf-sum, shelf-unwanted, listed-absent, shelf-absent}
 use Rattle.placement.proofs.Viewed.{placed-viewed, remains-viewed}
 use Rattle.placement.proofs.ShelfFormed.{full-slots}
 use Rattle.placement.proofs.ShelfPlan.{remaining-occurrences, without, left, placed-absent, copies-accepted, left-sum}
@@ -86,6 +86,14 @@ module _ (rack : List Disk) (records : List Item) (usable : Usable rack) (accept
     present = λ f here. omega (arith, all-films f, placed-or-left rack list usable f, shelf-sum records (oneIf f));
     once = λ f none.
         omega (arith, all-films f, not-placed f none .0, not-placed f none .1, listed-absent records f none, shelf-sum records (oneIf f));
+    notShelved = λ f some.
+        omega (
+          arith,
+          all-films f,
+          shelf-absent records (accepted .distinct) f some,
+          together-copies f placed,
+          sumBy-byFilm (oneIf f) (remaining rack list),
+        );
     slotsTaken = λ f none here.
         full-slots rack (shelved rack films placed) (copies-accepted rack records usable accepted)
         (unshelved-full rack films placed

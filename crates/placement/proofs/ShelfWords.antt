@@ -91,6 +91,14 @@ stored-not-listed promised = omega (arith, promised .once 9 refl)
 pub left-not-listed : Promised (7 ∶ 2 ∷ 4 ∶ 3 ∷ 2 ∶ 0 ∷ []) (3 ∶ 0 ∷ []) (9 ∶ 0 ∷ []) → ⊥
 left-not-listed promised = omega (arith, promised .once 9 refl)
 
+-- ... a shelf copy of a film that has viewers, ...
+pub wanted-shelved : Promised (7 ∶ 2 ∷ 4 ∶ 3 ∷ 2 ∶ 0 ∷ []) (3 ∶ 0 ∷ 7 ∶ 0 ∷ []) [] → ⊥
+wanted-shelved promised = omega (arith, promised .notShelved 7 (omega arith))
+
+-- ... such a film left with amount 0, ...
+pub wanted-left : Promised (7 ∶ 2 ∷ 4 ∶ 3 ∷ 2 ∶ 0 ∷ []) (3 ∶ 0 ∷ []) (7 ∶ 0 ∷ []) → ⊥
+wanted-left promised = omega (arith, promised .notShelved 7 (omega arith))
+
 -- ... and a film of demand 0 left while disk 2 has a free slot.
 pub beside-free-slot : Promised (7 ∶ 2 ∷ 4 ∶ 3 ∷ 2 ∶ 0 ∷ []) [] (3 ∶ 0 ∷ []) → ⊥
 beside-free-slot promised =

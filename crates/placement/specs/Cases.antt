@@ -139,7 +139,8 @@ edges =
 
 -- Shelf copies: the only slot is taken, and the film is left. Films in ascending number, to disk 1 first and then to disk 2. Disk 1 is
 -- full, and on disk 2 the film stands behind the other copy. Disk 1 takes two films before disk 2 takes one, though a split film is on
--- both. A list of demand 0 alone. Several films without a slot. A film without a slot between two films that the method leaves.
+-- both. A list of demand 0 alone. Several films without a slot. A film without a slot between two films that the method leaves. Slots
+-- that stay free: no film has a second copy for them.
 abbrev pub shelves : List Row
 shelves =
     row (rackOf 1 1 5) (7 ∶ 5 ∷ 2 ∶ 0 ∷ []) (plans 5 0 1 (7 ∶ 5 ∷ []) (1 ∷ []) (2 ∶ 0 ∷ none ∷ []))
@@ -152,6 +153,7 @@ shelves =
     ∷ row (rackOf 2 1 5) (3 ∶ 0 ∷ 1 ∶ 0 ∷ 2 ∶ 0 ∷ []) (plans 0 0 1 (1 ∶ 0 ∷ 2 ∶ 0 ∷ []) (1 ∷ 1 ∷ []) (3 ∶ 0 ∷ none ∷ none ∷ []))
     ∷ row (rackOf 1 1 5) (8 ∶ 0 ∷ 6 ∶ 0 ∷ 4 ∶ 0 ∷ []) (plans 0 0 2 (4 ∶ 0 ∷ []) (1 ∷ []) (6 ∶ 0 ∷ 8 ∶ 0 ∷ none ∷ []))
     ∷ row (rackOf 1 1 1) (9 ∶ 2 ∷ 5 ∶ 0 ∷ 3 ∶ 5 ∷ 7 ∶ 1 ∷ []) (plans 1 7 3 (7 ∶ 1 ∷ []) (1 ∷ []) (3 ∶ 5 ∷ 5 ∶ 0 ∷ 9 ∶ 2 ∷ none ∷ []))
+    ∷ row (rackOf 2 2 9) (4 ∶ 0 ∷ 1 ∶ 2 ∷ []) (plans 2 0 0 (1 ∶ 2 ∷ 4 ∶ 0 ∷ none ∷ none ∷ []) (2 ∷ 0 ∷ []) (none ∷ none ∷ []))
     ∷ []
 
 -- 1: N, k or L outside its range, or unequal disks, also where the list is at fault too.

@@ -20,7 +20,7 @@ abbrev pub served : List (List Item) → ℕ
 served [] = 0
 served (copies ∷ rest) = total copies + served rest
 
--- What is left by ascending film, as the left table has it.
+-- What the method leaves, by ascending film.
 abbrev pub leftOf : List Disk → List Item → List Item
 leftOf ds list = byFilm (remaining ds list)
 

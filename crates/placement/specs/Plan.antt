@@ -1,4 +1,4 @@
--- Plans as values, and which of them are well formed, as document 01's "Tables" has it.
+-- Plans as values, and which of them are well formed, as document 01's "Tables" and 02's P1 have it.
 use Prim.Native.Nat.{ℕ}
 use mathlib.Core.Bool.{Bool, true, false, _&&_}
 use mathlib.Core.List.{List, [], _∷_}
@@ -57,7 +57,7 @@ leftFilmAccepted x = inRange mostPlanFilm (x .film) && leb (x .amount) mostDeman
 abbrev pub leftAccepted : List Item → Bool
 leftAccepted left = leb (length left) mostLeft && (ascendingAbove 0 left && every leftFilmAccepted left)
 
--- 01's well-formed plan, but for the unused copy places, which a plan value does not have.
+-- A well-formed plan, but for the unused copy places, which a plan value does not have.
 abbrev pub wellFormed : Plan → Bool
 wellFormed p = rackAccepted (p .rack) && (disksAccepted (p .rack) (p .copies) && leftAccepted (p .left))
 

@@ -29,8 +29,12 @@ pub record ShelfPromise (rack : List Disk) (records : List Item) (layout : List 
   pub leaves : withAmount left ≡ leftOf rack (listOf records)
   -- every film of the list has a copy or is left
   pub present : (f : ℕ) → 1 ≤ occurrences f records → 1 ≤ copyCount f layout + occurrences f left
-  -- a film of demand 0 has one copy or is left, not both, and no film has either that is not in the list
+  -- a film of demand 0 has one copy or is left, not both; a film that is not in the list has no copy and is not left
   pub once : (f : ℕ) → amountFor f records ≡ 0 → copyCount f layout + occurrences f left ≡ occurrences f records
+  -- a film of demand 1 or more has no copy but the method's, and is left only where the method leaves it
+  pub notShelved :
+      (f : ℕ) → 1 ≤ amountFor f records
+      → copyCount f layout + occurrences f left ≡ copyCount f (placement rack (listOf records)) + occurrences f (leftOf rack (listOf records))
   -- a film of demand 0 is left only if every slot of every disk is taken
   pub slotsTaken :
       (f : ℕ) → amountFor f records ≡ 0 → 1 ≤ occurrences f left → map length layout ≡ map (λ (d : Disk). d .slots) rack
