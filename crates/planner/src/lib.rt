@@ -1,6 +1,6 @@
 // Planning: the bytes of a demand list to the lent tables, in steps of one module each.
 mod answer; // answer.rt: what planning answers
-mod build; // build.rt: the list of the method from the records
+mod build; // build.rt: the working list from the records
 mod fill; // fill.rt: one disk filled, and all disks
 mod fulfil; // fulfil.rt: the plan of a list that is not refused
 mod judge; // judge.rt: the refusals of planning
@@ -9,7 +9,7 @@ mod left; // left.rt: the left table
 mod shelf; // shelf.rt: shelf copies
 mod store; // store.rt: entries in a lent table
 mod window; // window.rt: the window of a disk
-mod worklist; // worklist.rt: the list of the method as ascending numbers
+mod worklist; // worklist.rt: the working list as ascending numbers
 
 pub use answer::Answer;
 use fulfil::fill_tables;
