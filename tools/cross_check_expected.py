@@ -208,8 +208,7 @@ def main():
         print("films of demand 0:", dict(shelf), file=sys.stderr)
     print("cases", CASES)
     print("refused", sum(refused.values()))
-    for word in ("served", "left", "copies", "left films"):
-        print(word, tally[word])
+    print("\n".join(f"{word} {tally[word]}" for word in ("served", "left", "copies", "left films")))
     print("differ 0")
 
 

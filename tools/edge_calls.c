@@ -97,6 +97,21 @@ static void plan_of_a_repeated_film(void)
     expect_number("a left place after a refusal", two_left[0], 3);
 }
 
+/* Two films of demand 0 and one slot: the lower one has it, as a copy with 0 viewers, and the other is left with amount 0. */
+static void plan_of_shelf_films(void)
+{
+    static const uint8_t unwatched[16] = {7, 0, 0, 0, 0, 0, 0, 0, 2, 0, 0, 0, 0, 0, 0, 0};
+    uint64_t two_left[2] = {3, 3};
+    struct jugfjord_planned p = jugfjord_plan(1, 1, 1, unwatched, sizeof unwatched, copies, 1, counts, 1, two_left, 2);
+    expect("films 7 and 2 of demand 0", p.number, p.second, 0, 0);
+    expect_number("their copy", copies[0], jugfjord_entry(2, 0));
+    expect_number("their count", counts[0], 1);
+    expect_number("how many are left", p.left, 1);
+    expect_number("which one is left", two_left[0], jugfjord_entry(7, 0));
+    expect_number("the unused left place", two_left[1], 0);
+    expect_number("their viewers", p.served + p.unserved, 0);
+}
+
 /* Writing with nothing lent, without space, and of tables that are no plan. */
 static void writing(void)
 {
@@ -155,6 +170,7 @@ int main(void)
     plan_of_nothing();
     plan_of_lists();
     plan_of_a_repeated_film();
+    plan_of_shelf_films();
     writing();
     reading();
     judging();

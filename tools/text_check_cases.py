@@ -224,7 +224,7 @@ def lines_file():
 # ---- copies with 0 viewers and left films with amount 0 ----
 
 def zero_viewers(c):
-    """Disks of three slots and load 5 with copies of 0 viewers, and one of 32 slots."""
+    """Disks of three slots and load 5 with copies of 0 viewers."""
     for label, copies in (("first", [(7, 0), (1, 2), (2, 3)]), ("between", [(1, 2), (7, 0), (2, 3)]),
                           ("last", [(1, 2), (2, 3), (7, 0)]), ("alone", [(7, 0)]), ("all", [(3, 0), (1, 0), (2, 0)]),
                           ("one_too_many", [(1, 0), (2, 0), (3, 0), (4, 0)]), ("then_load_exceeded", [(7, 0), (1, 6)]),
@@ -233,6 +233,10 @@ def zero_viewers(c):
                           ("film_after_viewers", [(7, 1), (7, 0)]), ("film_0", [(0, 0)]), ("film_0_first", [(0, 0), (1, 1)]),
                           ("film_0_last", [(1, 1), (0, 0)]), ("film_65535", [(65535, 0)]), ("film_65536", [(65536, 0)])):
         c.add("zero_viewers_" + label, text_of(1, 3, 5, {1: copies}, []))
+
+
+def zero_viewers_in_32_slots(c):
+    """A disk of 32 slots with copies of 0 viewers alone, and one copy too many."""
     for n in (32, 33):
         c.add("zero_viewers_%d_of_32" % n, text_of(1, 32, 1, {1: [(f, 0) for f in range(1, n + 1)]}, []))
 
@@ -247,13 +251,19 @@ def zero_amounts(c):
         c.add("zero_amount_" + label, text_of(1, 3, 5, {}, left))
 
 
-def zeros(c):
-    """Both in one text, zero in two digits, and sums that count a zero."""
-    zero_viewers(c)
-    zero_amounts(c)
-    c.add("zero_film_on_two_disks_and_left", text_of(2, 1, 5, {1: [(7, 0)], 2: [(7, 0)]}, [(7, 0)]))
+def two_zeros(c):
+    """Zero in two digits."""
     for film in (1, 7, 6, 10):
         c.add("shelf_film_%d_two_zeros" % film, SHELF.replace(b"(%d 0)" % film, b"(%d 00)" % film))
+
+
+def zeros(c):
+    """0 viewers, amount 0, both in one text, and sums that count a zero."""
+    zero_viewers(c)
+    zero_viewers_in_32_slots(c)
+    zero_amounts(c)
+    c.add("zero_film_on_two_disks_and_left", text_of(2, 1, 5, {1: [(7, 0)], 2: [(7, 0)]}, [(7, 0)]))
+    two_zeros(c)
     for s, u in ((11, 4), (10, 5)):
         c.add("served_%d_%d_of_shelf" % (s, u), SHELF.replace(b"served 10 4", b"served %d %d" % (s, u)))
 

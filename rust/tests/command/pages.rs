@@ -20,6 +20,17 @@ type Films = BTreeMap<u32, Film>;
 
 /// What the plan has of each film.
 fn films_of(plan: &Plan) -> Films {
+    let mut films = stored_films(plan);
+    for &(film, amount) in &plan.left {
+        let film = films.entry(film).or_default();
+        let is_shown = amount > 0 || !film.copies.is_empty();
+        film.left = is_shown.then_some(amount.into());
+    }
+    films
+}
+
+/// What the disks of the plan have of each film.
+fn stored_films(plan: &Plan) -> Films {
     let mut films = Films::new();
     let disks = (1..).zip(&plan.disks);
     let copies = disks.flat_map(|(disk, copies)| copies.iter().map(move |copy| (disk, copy)));
@@ -28,11 +39,6 @@ fn films_of(plan: &Plan) -> Films {
         film.served += u64::from(viewers);
         film.left = Some(0);
         film.copies.push((disk, viewers));
-    }
-    for &(film, amount) in &plan.left {
-        let film = films.entry(film).or_default();
-        let is_shown = amount > 0 || !film.copies.is_empty();
-        film.left = is_shown.then_some(amount.into());
     }
     films
 }

@@ -202,6 +202,19 @@ fn a_full_disk_gets_no_shelf_copy() {
 }
 
 #[test]
+fn disk_1_takes_two_shelf_copies_before_disk_2_takes_one() {
+    let list = [(4, 8), (6, 8), (3, 0), (1, 0), (2, 0)];
+    let disks: [&[Pair]; 2] = [&[(4, 5), (1, 0), (2, 0)], &[(4, 3), (6, 2), (3, 0)]];
+    expect(rack(2, 3, 5), &list, &disks, &[(6, 6)], (10, 6));
+}
+
+#[test]
+fn slots_that_stay_free_get_no_second_copies() {
+    let disks: [&[Pair]; 2] = [&[(1, 2), (4, 0)], &[]];
+    expect(rack(2, 2, 9), &[(4, 0), (1, 2)], &disks, &[], (2, 0));
+}
+
+#[test]
 fn films_of_demand_0_alone_go_by_film_number() {
     let disks: [&[Pair]; 2] = [&[(1, 0)], &[(2, 0)]];
     let list = [(3, 0), (1, 0), (2, 0)];

@@ -5,7 +5,7 @@ use jugfjord::rack::{records, Rack, Slots, Streams};
 use jugfjord::tables::{Entry, Tables};
 
 use crate::cases::expect_refused;
-use crate::subjects::{JUDGES, PLANNERS, READERS, WRITERS};
+use crate::subjects::{Judge, Reader, JUDGES, PLANNERS, READERS, WRITERS};
 
 fn rack_of(disks: u32) -> Rack {
     Rack::new(disks, Slots(1), Streams(1))
@@ -47,15 +47,19 @@ fn records_1024_pass_and_1025_do_not() {
     expect_refused(rack_of(1), &list, 3, 0);
 }
 
+/// What each reader, with tables that are long enough, and each judge answers on a text.
+fn answers(text: &str) -> impl Iterator<Item = (&str, ReadPlan)> {
+    let read = |&(name, reader): &(_, Reader)| {
+        let mut tables = Tables::for_plan(Rack::new(1, Slots(3), Streams(5)), 2);
+        (name, reader(text.as_bytes(), tables.lend()))
+    };
+    let judged = |&(name, judge): &(_, Judge)| (name, judge(text.as_bytes()));
+    READERS.iter().map(read).chain(JUDGES.iter().map(judged))
+}
+
 /// Asserts that each reader and each judge refuses the text at this line.
 fn expect_wrong_line(text: &str, line: u32) {
-    for (name, reader) in READERS {
-        let mut tables = Tables::for_plan(rack_of(1), 0);
-        let read = reader(text.as_bytes(), tables.lend());
-        assert_eq!((read.number, read.second), (9, line), "{name}: {text:?}");
-    }
-    for (name, judge) in JUDGES {
-        let read = judge(text.as_bytes());
+    for (name, read) in answers(text) {
         assert_eq!((read.number, read.second), (9, line), "{name}: {text:?}");
     }
 }
@@ -86,9 +90,11 @@ fn the_wrong_line_is_named() {
     }
 }
 
+/// A text with 0 viewers and with amount 0.
+const TEXT_WITH_0: &str = "(rack 1 3 5)\n(disk 1 (7 0) (3 5))\n(left (2 0) (4 9))\n(served 5 9)\n";
+
 #[test]
-fn texts_with_0_viewers_and_amount_0_are_read() {
-    let text = "(rack 1 3 5)\n(disk 1 (7 0) (3 5))\n(left (2 0) (4 9))\n(served 5 9)\n";
+fn texts_with_0_viewers_and_amount_0_are_accepted() {
     let answer = ReadPlan {
         disks: 1,
         slots: 3,
@@ -98,16 +104,20 @@ fn texts_with_0_viewers_and_amount_0_are_read() {
         unserved: 9,
         ..ReadPlan::default()
     };
+    for (name, read) in answers(TEXT_WITH_0) {
+        assert_eq!(read, answer, "{name}");
+    }
+}
+
+#[test]
+fn copies_of_0_viewers_and_left_films_of_amount_0_are_read() {
     for (name, reader) in READERS {
         let mut tables = Tables::for_plan(Rack::new(1, Slots(3), Streams(5)), 2);
-        assert_eq!(reader(text.as_bytes(), tables.lend()), answer, "{name}");
+        reader(TEXT_WITH_0.as_bytes(), tables.lend());
         let copies = [Entry::new(7, 0), Entry::new(3, 5), Entry::default()];
         assert_eq!(tables.copies, copies, "{name}");
         assert_eq!(tables.counts, [2], "{name}");
         assert_eq!(tables.left, [Entry::new(2, 0), Entry::new(4, 9)], "{name}");
-    }
-    for (name, judge) in JUDGES {
-        assert_eq!(judge(text.as_bytes()), answer, "{name}");
     }
 }
 

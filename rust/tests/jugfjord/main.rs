@@ -1,5 +1,5 @@
 //! Tests of the library and of the plain Rust modules, against each other and against the
-//! cases of document 01. Without the feature `library` only the Rust modules are tested.
+//! cases of documents 01 and 02. Without the feature `library` only the Rust modules are tested.
 
 mod cases;
 mod damage;

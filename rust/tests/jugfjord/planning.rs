@@ -44,8 +44,11 @@ fn planners_agree_on_random_lists() {
         ("films of demand 0 alone", 10_000),
         ("shelf copies on one disk", 10_000),
         ("shelf copies on several disks", 10_000),
+        ("shelf copies behind a full disk", 2_000),
+        ("shelf copies around a full disk", 50),
         ("shelf film left", 10_000),
         ("shelf film left beside others", 10_000),
+        ("shelf film left between others", 5_000),
     ];
     least.extend(KINDS.map(|(name, _)| (name, 20_000)));
     least.extend(FAULTS.map(|(name, _)| (name, 5_000)));
@@ -142,10 +145,13 @@ fn tally_shape(case: &Case, planned: &Planned, after: &GuardedTables, tally: &mu
         ),
         ("shelf copies on one disk", shelf.disks == 1),
         ("shelf copies on several disks", shelf.disks > 1),
+        ("shelf copies behind a full disk", shelf.behind_full),
+        ("shelf copies around a full disk", shelf.around_full),
         ("shelf film left", shelf.left > 0),
         (
             "shelf film left beside others",
             (1..planned.left as usize).contains(&shelf.left),
         ),
+        ("shelf film left between others", shelf.left_between),
     ]);
 }
