@@ -16,13 +16,19 @@ pub struct Input {
 /// The film that stays at the front of the list as long as every disk slides.
 pub const FIRST_FILM: u32 = 1;
 
-pub fn lists() -> [Input; 3] {
+pub fn lists() -> [Input; 4] {
     let rack = |slots| Rack::new(MOST_DISKS, Slots(slots), Streams(500));
     [
         Input {
             name: "trial list, 512 films, total 32,000, seed 1",
             rack: rack(32),
             demands: trial_list(512, 32_000, 1),
+            slides: false,
+        },
+        Input {
+            name: "trial list, and 512 films of demand 0",
+            rack: rack(32),
+            demands: trial_list_with_shelf_films(),
             slides: false,
         },
         Input {
@@ -54,6 +60,13 @@ fn trial_list(count: u32, total: u64, seed: u32) -> Vec<Pair> {
     }
     let demand = |rank| (total * weight(rank) / all) as u32;
     films.into_iter().zip((1..=count).map(demand)).collect()
+}
+
+/// The trial list of 512 films, each with a film of demand 0 behind it.
+fn trial_list_with_shelf_films() -> Vec<Pair> {
+    let shelf_films = (513..=1_024).map(|film| (film, 0));
+    let both = trial_list(512, 32_000, 1).into_iter().zip(shelf_films);
+    both.flat_map(|(wanted, shelf)| [wanted, shelf]).collect()
 }
 
 /// Few films above the load behind many of demand 1. Each window ends at a large film, and
