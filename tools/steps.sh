@@ -3,7 +3,7 @@
 # shellcheck shell=bash
 
 shown='' # see step
-made_with='rattle-kit-5b logic 064da1ca440f63e7' # what `rt version` printed where this tree was made
+made_with='rattle-kit-5b-plain logic 097e4c862dff5811' # what `rt version` printed where this tree was made
 
 # Seconds that each crate's proof takes on two idle cores. Of a crate that is not listed no time is said.
 declare -A seconds_of=(
