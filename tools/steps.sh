@@ -7,8 +7,8 @@ made_with='rattle-kit-5b-plain logic 097e4c862dff5811' # what `rt version` print
 
 # Seconds that each crate's proof takes on two idle cores. Of a crate that is not listed no time is said.
 declare -A seconds_of=(
-    [refusal]=3 [placement]=7 [demand_list]=6 [planner]=38 [plan_text]=3 [well_formed]=8 [writer]=27 [reader]=35
-    [plan_output]=13 [jugfjord]=10 [plan]=20
+    [refusal]=3 [placement]=5 [demand_list]=6 [planner]=31 [plan_text]=3 [well_formed]=7 [writer]=19 [reader]=29
+    [plan_output]=10 [jugfjord]=10 [plan]=16
 )
 
 # Says what a command is, and where it is expected.
