@@ -3,7 +3,7 @@ use Prim.Native.Nat.{_≤_}
 use native.Mathlib.Omega.{arith}
 use Rattle.refusal.specs.Numbers.{numberOf}
 use Rattle.refusal.specs.declared.Refusal.{Refusal}
-use Rattle.refusal.specs.declared.Refusal.the-variants.{RackOutOfRange, ListLength, TooManyRecords, FilmOutOfRange, DemandOutOfRange, FilmRepeated, TablesTooShort, TextTooLong, Line, NotWellFormed, SpaceTooShort}
+use Rattle.refusal.specs.declared.Refusal.the-variants.{RackOutOfRange, ListLength, TooManyRecords, FilmOutOfRange, DemandOutOfRange, FilmRepeated, TablesTooShort, TextTooLong, Line, NotWellFormed, SpaceTooShort, DisksOutOfRange, RatioDiffers}
 
 -- No refusal has the number 0.
 pub number-some : (r : Refusal) → 1 ≤ numberOf r
@@ -18,3 +18,5 @@ number-some TextTooLong = omega arith
 number-some (Line line) = omega arith
 number-some NotWellFormed = omega arith
 number-some SpaceTooShort = omega arith
+number-some DisksOutOfRange = omega arith
+number-some (RatioDiffers disk) = omega arith

@@ -1,8 +1,8 @@
--- Document 01's number and second number for each refusal.
+-- The number and second number of each refusal, as documents 01 and 02 have them.
 use Prim.Native.Nat.{ℕ}
 use Rattle.refusal.specs.Verdict.{Verdict, given, refused}
 use Rattle.refusal.specs.declared.Refusal.{Refusal}
-use Rattle.refusal.specs.declared.Refusal.the-variants.{RackOutOfRange, ListLength, TooManyRecords, FilmOutOfRange, DemandOutOfRange, FilmRepeated, TablesTooShort, TextTooLong, Line, NotWellFormed, SpaceTooShort}
+use Rattle.refusal.specs.declared.Refusal.the-variants.{RackOutOfRange, ListLength, TooManyRecords, FilmOutOfRange, DemandOutOfRange, FilmRepeated, TablesTooShort, TextTooLong, Line, NotWellFormed, SpaceTooShort, DisksOutOfRange, RatioDiffers}
 use Rattle.refusal.specs.declared.Judgement.{Judgement}
 use Rattle.refusal.specs.declared.Judgement.the-variants.{Passed, Refused}
 
@@ -18,8 +18,10 @@ numberOf TextTooLong = 8
 numberOf (Line line) = 9
 numberOf NotWellFormed = 10
 numberOf SpaceTooShort = 11
+numberOf DisksOutOfRange = 12
+numberOf (RatioDiffers disk) = 13
 
--- The position of the record, or the line; 0 where 01 names no second number.
+-- The position of the record, the line, or the disk; 0 where no second number is named.
 abbrev pub secondOf : Refusal → ℕ
 secondOf RackOutOfRange = 0
 secondOf ListLength = 0
@@ -32,6 +34,8 @@ secondOf TextTooLong = 0
 secondOf (Line line) = line
 secondOf NotWellFormed = 0
 secondOf SpaceTooShort = 0
+secondOf DisksOutOfRange = 0
+secondOf (RatioDiffers disk) = disk
 
 -- A refusal as a verdict on any call.
 abbrev pub refusalOf : {A : Type 0} → Refusal → Verdict A

@@ -1,8 +1,8 @@
-// Why an operation declines: document 01's refusals as one enum, with the number and the second number of each.
+// Why an operation declines: the refusals of documents 01 and 02 as one enum, with the number and the second number of each.
 ghost use mathlib.Core.Path.{_≡_};
 ghost use Rattle.refusal.specs.Numbers.{numberOf, secondOf};
 
-// Document 01's refusals. specs/Numbers.antt gives its number and values for each case.
+// The refusals of documents 01 and 02. specs/Numbers.antt gives number and values for each case.
 pub enum Refusal {
     RackOutOfRange,
     ListLength,
@@ -15,6 +15,8 @@ pub enum Refusal {
     Line(u32),
     NotWellFormed,
     SpaceTooShort,
+    DisksOutOfRange,
+    RatioDiffers(u32),
 }
 
 // What a judgement comes to: no refusal applies, or the first that does.
@@ -23,7 +25,7 @@ pub enum Judgement {
     Refused(Refusal),
 }
 
-// Document 01's number of a refusal.
+// The number of a refusal.
 pub fn number(refusal: Refusal) -> u32
     ensures { λ r. ⌜ r ≡ numberOf refusal ⌝ }
 {
@@ -39,10 +41,12 @@ pub fn number(refusal: Refusal) -> u32
         Refusal::Line(_) => 9,
         Refusal::NotWellFormed => 10,
         Refusal::SpaceTooShort => 11,
+        Refusal::DisksOutOfRange => 12,
+        Refusal::RatioDiffers(_) => 13,
     }
 }
 
-// The second number of a refusal: a record's position or a line, 0 where document 01 names none.
+// The second number of a refusal: a record's position, a line or a disk, 0 where the documents name none.
 pub fn second(refusal: Refusal) -> u32
     ensures { λ r. ⌜ r ≡ secondOf refusal ⌝ }
 {
@@ -58,5 +62,7 @@ pub fn second(refusal: Refusal) -> u32
         Refusal::Line(line) => line,
         Refusal::NotWellFormed => 0,
         Refusal::SpaceTooShort => 0,
+        Refusal::DisksOutOfRange => 0,
+        Refusal::RatioDiffers(disk) => disk,
     }
 }
