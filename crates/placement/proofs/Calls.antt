@@ -10,11 +10,13 @@ use Rattle.refusal.proofs.Verdicts.{unless-given}
 use Rattle.placement.specs.Items.{Item, amountOf, total, listOf}
 use Rattle.placement.specs.Rack.{rackAccepted, mostRecords, mostDemand}
 use Rattle.placement.specs.Records.{recordCount, shapeJudged, recordsJudged}
+use Rattle.placement.specs.FillingOrder.{filling}
 use Rattle.placement.specs.Tables.{Tables, roomFor}
 use Rattle.placement.specs.Plan.{disksAccepted, leftAccepted, servedOf, unservedOf}
 use Rattle.placement.specs.Planning.{Call, recordsIn, leftIn, planIn, roomJudged, verdict}
 use Rattle.placement.specs.WellFormed.{Each, Demanded, RecordsAccepted, Entry, Bounded, CallWellFormed}
 use Rattle.placement.proofs.Conjunctions.{and-holds}
+use Rattle.placement.proofs.Chains.{rack-given}
 use Rattle.placement.proofs.Racks.{accepted-allLoads}
 use Rattle.placement.proofs.Films.{Usable}
 use Rattle.placement.proofs.BestSharing.{plan-total}
@@ -33,7 +35,7 @@ pub call-judged :
 call-judged c t e =
     let fromRecords : Verdict (Unit {0}) = recordsJudged (c .list) (given tt) in
     let fromRoom : Verdict (Unit {0}) = roomJudged (c .rack) (recordCount (c .list)) t fromRecords in
-    let rack = unless-given (rackAccepted (c .rack)) 1 0 (shapeJudged (c .list) fromRoom) tt e in
+    let rack = rack-given (c .rack) (shapeJudged (c .list) fromRoom) tt e in
     let shape = shape-given (c .list) fromRoom tt (rack .1) in
     let room = unless-given (roomFor (c .rack) (recordCount (c .list)) t) 7 0 fromRecords tt (shape .1) in
     (rack .0, shape .0, room .0, records-accepted (given tt) tt (recordsIn c) (room .1))
@@ -58,7 +60,7 @@ accepted-wellFormed c rack few accepted = record {
   unservedMost = omega (arith, bounds .unserved, demand);
 }
   where
-    usable : Usable (c .rack)
+    usable : Usable (filling (c .rack))
     usable = accepted-usable (c .rack) rack
 
     disks : disksAccepted (c .rack) (planIn c .copies) ≡ true
@@ -83,12 +85,12 @@ accepted-wellFormed c rack few accepted = record {
       unserved =
           omega (
             arith,
-            plan-total (c .rack) (recordsIn c) usable,
+            plan-total (filling (c .rack)) (recordsIn c) usable,
             sumBy-byFilm amountOf (leftIn c),
             left-total (c .rack) (recordsIn c) usable accepted,
           );
       demand = total-demanded (recordsIn c) (accepted .demanded);
-      windows = placement-windows (c .rack) (listOf (recordsIn c)) usable (listOf-entries (recordsIn c) accepted);
+      windows = placement-windows (filling (c .rack)) (listOf (recordsIn c)) usable (listOf-entries (recordsIn c) accepted);
     }
 
     demand : total (recordsIn c) ≤ 1024000000

@@ -1,4 +1,4 @@
--- Demand 3, whole: for every list of disks of one ratio by ascending slots, and from that for document 01's rack.
+-- Demand 3, whole: for every list of disks of one ratio by ascending slots, and from that for every rack that planning accepts.
 use mathlib.Core.Path.{_≡_, refl, sym, subst, _∙_}
 use mathlib.Core.Bool.{true}
 use mathlib.Core.List.{List, [], _∷_}
@@ -6,10 +6,10 @@ use Prim.Native.Nat.{ℕ, zero, suc, _+_, _-_, _≤_}
 use native.Mathlib.Omega.{arith}
 use lib.ListN.{length, replicate}
 use Rattle.placement.specs.Items.{Item, total, wanted, listOf}
-use Rattle.placement.specs.Rack.{Disk, disk, rackOf, allLoads, firstSlots, firstLoad, leastSlots, rackAccepted}
+use Rattle.placement.specs.Rack.{Disk, disk, rackOf, allLoads, leastSlots, rackAccepted}
 use Rattle.placement.specs.Method.{placement, served, unserved}
+use Rattle.placement.specs.FillingOrder.{filling, placed}
 use Rattle.placement.specs.Promise.{Distinct, Fitting, Demand3, UniformFrom, Uniform}
-use Rattle.placement.proofs.Racks.{rack-least, accepted-disks, accepted-slots, accepted-load, accepted-equal}
 use Rattle.placement.proofs.Sums.{length-sum, one}
 use Rattle.placement.proofs.Order.{list-ascending}
 use Rattle.placement.proofs.Films.{Usable}
@@ -17,6 +17,9 @@ use Rattle.placement.proofs.Listed.{sumBy-listOf, listOf-total}
 use Rattle.placement.proofs.Ratio.{load-some}
 use Rattle.placement.proofs.BestSharing.{best-sharing, own-sharing, plan-total}
 use Rattle.placement.proofs.Served.{Shared, shared, all-served}
+use Rattle.placement.proofs.FillingOrder.{filling-length}
+use Rattle.placement.proofs.NumberOrder.{placement-length, byNumber-served, demand3-byNumber}
+use Rattle.placement.proofs.UnequalRacks.{smallest, accepted-uniform}
 
 -- The films of the list are the films wanted.
 listOf-length : (records : List Item) → length (listOf records) ≡ wanted records
@@ -84,19 +87,19 @@ pub demand3-rack :
 demand3-rack n k l records someSlots someLoad distinct =
     demand3 k l (rackOf n k l) records (rack-uniform n k l someSlots someLoad) distinct
 
--- Demand 3 for every accepted rack, with k its smallest slots.
+-- Demand 3 for every accepted rack, with k its smallest slots: in filling order its disks are of one ratio by ascending slots.
 pub demand3-accepted :
     (rack : List Disk) (records : List Item) → rackAccepted rack ≡ true → Distinct records
-    → Demand3 (leastSlots rack) rack records (placement rack (listOf records)) (served (placement rack (listOf records)))
-    (unserved rack (listOf records))
+    → Demand3 (leastSlots rack) rack records (placed rack (listOf records)) (served (placed rack (listOf records)))
+    (unserved (filling rack) (listOf records))
 demand3-accepted rack records e distinct =
     subst
-    (λ (r : List Disk). Demand3 (leastSlots r) r records (placement r (listOf records)) (served (placement r (listOf records)))
-    (unserved r (listOf records))) (sym (accepted-equal rack e))
-    (subst
-    (λ (k : ℕ). Demand3 k equal records (placement equal (listOf records)) (served (placement equal (listOf records)))
-    (unserved equal (listOf records))) (sym (rack-least (length rack) (firstSlots rack) (firstLoad rack) (accepted-disks rack e .0)))
-    (demand3-rack (length rack) (firstSlots rack) (firstLoad rack) records (accepted-slots rack e .0) (accepted-load rack e .0) distinct))
+    (λ (s : ℕ). Demand3 (leastSlots rack) rack records (placed rack (listOf records)) s (unserved (filling rack) (listOf records)))
+    (sym (byNumber-served rack ordered same))
+    (demand3-byNumber rack ordered same (demand3 (leastSlots rack) (smallest rack e .load) (filling rack) records (accepted-uniform rack e) distinct))
   where
-    equal : List Disk
-    equal = rackOf (length rack) (firstSlots rack) (firstLoad rack)
+    ordered : List (List Item)
+    ordered = placement (filling rack) (listOf records)
+
+    same : length ordered ≡ length rack
+    same = placement-length (filling rack) (listOf records) ∙ filling-length rack

@@ -9,9 +9,9 @@ use Rattle.placement.specs.Rack.{rackOf, allSlots}
 use Rattle.placement.specs.Method.{unserved, placement}
 use Rattle.placement.specs.Sharing.{Sharing}
 use Rattle.placement.specs.Promise.{Distinct, Fitting, Demand3, unservedSide, servedSide}
-use Rattle.placement.specs.Demand3Words.{disksA, demandsA, copiesA, disksC, demandsC, copiesC, disksE, demandsE, copiesE, disksG, demandsG, copiesG, disksH, demandsH}
+use Rattle.placement.specs.Demand3Words.{disksA, demandsA, copiesA, disksC, demandsC, copiesC, disksE, demandsE, copiesE, disksG, demandsG, copiesG, disksH, demandsH, disksU, demandsU, copiesU}
 use Rattle.placement.proofs.Films.{distinct-new}
-use Rattle.placement.proofs.Demand3.{demand3-rack}
+use Rattle.placement.proofs.Demand3.{demand3-rack, demand3-accepted}
 use Rattle.placement.proofs.ShelfSharing.{demand3-shelved}
 
 -- How often the films of a list stand again behind themselves.
@@ -115,3 +115,15 @@ beyond-load-H promised = omega (arith, promised .own .withinLoads .0)
 -- For one that serves 5, S is 5, and U what total demand has more.
 pub numbers-H : (s u : ℕ) → Demand3 1 disksH demandsH ((2 ∶ 5 ∷ []) ∷ []) s u → (s ≡ 5) × (u ≡ 5)
 numbers-H s u promised = (omega (arith, promised .ownServes), omega (arith, promised .ownServes, promised .whole))
+
+-- Demand 3 holds for unequal disks, with k the smallest slots: of this rack S is 7 and U is 2.
+pub demand3-U : Demand3 1 disksU demandsU copiesU 7 2
+demand3-U = demand3-accepted disksU demandsU refl (repeats-none demandsU refl)
+
+-- Its streams and slots just suffice, ...
+pub fitting-U : Fitting disksU demandsU
+fitting-U = record { load = omega arith; slots = omega arith }
+
+-- ... and with k the largest slots the square would not hold.
+pub largest-slots-U : Demand3 2 disksU demandsU copiesU 7 2 → ⊥
+largest-slots-U promised = omega (arith, promised .square fitting-U)

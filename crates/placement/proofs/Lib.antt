@@ -1,11 +1,11 @@
 pub mod Conjunctions
 pub mod Tests
 pub mod Racks
-pub mod EqualRacks
 pub mod PlanExamplesHold
 pub mod Offsets
 pub mod EntryNumbers
 pub mod Chains
+pub mod PackedRacks
 pub mod Sums
 pub mod Search
 pub mod WindowCases
@@ -33,6 +33,11 @@ pub mod ReducedSet
 pub mod KeptSet
 pub mod ClosedSet
 pub mod BestSharing
+pub mod InsertedAt
+pub mod FillingOrder
+pub mod NumberOrder
+pub mod DiskRanges
+pub mod UnequalRacks
 pub mod Demand3
 pub mod Each
 pub mod Records
@@ -60,3 +65,5 @@ pub mod AnySharing
 pub mod CasesFit
 pub mod Demand3Words
 pub mod ShelfWords
+pub mod EqualPlan
+pub mod LongRacks

@@ -7,8 +7,9 @@ use lib.ListN.{length}
 use Rattle.refusal.specs.Verdict.{Verdict, given, refused, Numbers}
 use Rattle.refusal.proofs.Verdicts.{Numbered, unless-numbered}
 use Rattle.placement.specs.Items.{Item, amountOf, total, amountFor, listOf}
-use Rattle.placement.specs.Rack.{rackAccepted, leastSlots}
+use Rattle.placement.specs.Rack.{leastSlots}
 use Rattle.placement.specs.Method.{served, unserved}
+use Rattle.placement.specs.FillingOrder.{filling}
 use Rattle.placement.specs.Shelf.{shelfFilms}
 use Rattle.placement.specs.Records.{recordCount}
 use Rattle.placement.specs.Tables.{Tables, roomFor}
@@ -19,6 +20,7 @@ use Rattle.placement.specs.Promise.{Distinct, Demand3}
 use Rattle.placement.specs.ShelfPromise.{ShelfPromise}
 use Rattle.placement.specs.WellFormed.{CallWellFormed}
 use Rattle.placement.specs.PlanPromise.{PlanPromise}
+use Rattle.placement.proofs.Chains.{rack-numbered}
 use Rattle.placement.proofs.Each.{each-both}
 use Rattle.placement.proofs.ByFilm.{sumBy-byFilm}
 use Rattle.placement.proofs.Films.{Usable}
@@ -36,7 +38,7 @@ use Rattle.placement.proofs.ReadBack.{padded-held}
 -- Planning's refusals are numbered.
 verdict-numbered : (c : Call) (t : Tables) → Numbered (verdict c t)
 verdict-numbered c t =
-    unless-numbered (rackAccepted (c .rack)) 1 0 _ (omega arith)
+    rack-numbered (c .rack) _
     (shape-numbered (c .list) _
     (unless-numbered (roomFor (c .rack) (recordCount (c .list)) t) 7 0 _ (omega arith)
     (records-numbered [] 1 (recordsIn c) (given tt) tt)))
@@ -56,10 +58,10 @@ Kept c entry exit answer =
 demand3-plan :
     (c : Call) → CallWellFormed c
     → Demand3 (leastSlots (c .rack)) (c .rack) (recordsIn c) (planIn c .copies) (served (planIn c .copies))
-    (unserved (c .rack) (listOf (recordsIn c)))
+    (unserved (filling (c .rack)) (listOf (recordsIn c)))
 demand3-plan c formed =
     subst
-    (λ (s : ℕ). Demand3 (leastSlots (c .rack)) (c .rack) (recordsIn c) (planIn c .copies) s (unserved (c .rack) (listOf (recordsIn c))))
+    (λ (s : ℕ). Demand3 (leastSlots (c .rack)) (c .rack) (recordsIn c) (planIn c .copies) s (unserved (filling (c .rack)) (listOf (recordsIn c))))
     (sym (promised .ownServes)) promised
   where
     distinct : Distinct (recordsIn c)
@@ -67,7 +69,7 @@ demand3-plan c formed =
 
     promised :
         Demand3 (leastSlots (c .rack)) (c .rack) (recordsIn c) (planIn c .copies) (served (placedIn c))
-        (unserved (c .rack) (listOf (recordsIn c)))
+        (unserved (filling (c .rack)) (listOf (recordsIn c)))
     promised =
         demand3-shelved (shelfFilms (recordsIn c)) (placedIn c)
         (each-both Unwanted (λ x. amountFor (x .film) (recordsIn c) ≡ 0) (shelfFilms (recordsIn c)) (shelf-unwanted (recordsIn c))
@@ -80,7 +82,7 @@ kept-verdict c t (given u) e = (
   λ h. absurd (omega arith),
   λ h. subst
       (λ (layout : List (List Item)). Demand3 (leastSlots (c .rack)) (c .rack) (recordsIn c) layout (served (planIn c .copies))
-      (unserved (c .rack) (listOf (recordsIn c)))) (sym (ap (λ (p : Plan). p .copies) held)) (demand3-plan c formed),
+      (unserved (filling (c .rack)) (listOf (recordsIn c)))) (sym (ap (λ (p : Plan). p .copies) held)) (demand3-plan c formed),
   λ h. ap (λ (p : Plan). total (p .left)) held ∙ sumBy-byFilm amountOf (leftIn c) ∙ left-total (c .rack) (recordsIn c) usable (formed .accepted),
   λ h. subst (λ (p : Plan). ShelfPromise (c .rack) (recordsIn c) (p .copies) (p .left)) (sym held)
       (shelf-promise (c .rack) (recordsIn c) usable (formed .accepted)),
@@ -89,7 +91,7 @@ kept-verdict c t (given u) e = (
     formed : CallWellFormed c
     formed = call-wellFormed c t e
 
-    usable : Usable (c .rack)
+    usable : Usable (filling (c .rack))
     usable = accepted-usable (c .rack) (formed .rack)
 
     held : planHeld (c .rack) (holdingCall c t) (length (planIn c .left)) ≡ planIn c

@@ -1,5 +1,5 @@
 -- The plan of accepted records with its shelf copies: its copies are accepted, and what is left are distinct entries.
-use mathlib.Core.Path.{_≡_, refl}
+use mathlib.Core.Path.{_≡_, refl, _∙_}
 use mathlib.Core.Bool.{true}
 use mathlib.Core.List.{List, [], _∷_, _++_}
 use Prim.Native.Nat.{ℕ, _+_, _≤_}
@@ -9,6 +9,7 @@ use Rattle.placement.specs.Items.{Item, sumBy, total, amountOf, oneIf, o
 use Rattle.placement.specs.Rack.{Disk, mostDemand}
 use Rattle.placement.specs.Disk.{listAfter}
 use Rattle.placement.specs.Method.{placement, remaining, unserved}
+use Rattle.placement.specs.FillingOrder.{filling, placed}
 use Rattle.placement.specs.Plan.{disksAccepted}
 use Rattle.placement.specs.Promise.{Distinct}
 use Rattle.placement.specs.Shelf.{shelfFilms, shelved, unshelved}
@@ -18,6 +19,8 @@ use Rattle.placement.proofs.Films.{Usable, after-occurrences}
 use Rattle.placement.proofs.Layouts.{together, sameCopies-onWindows, onWindows-absent}
 use Rattle.placement.proofs.Listed.{listOf-distinct}
 use Rattle.placement.proofs.Each.{each-map, each-both, each-append}
+use Rattle.placement.proofs.FillingOrder.{filling-length, byNumber-sum}
+use Rattle.placement.proofs.NumberOrder.{placement-length, accepted-byNumber}
 use Rattle.placement.proofs.Shelving.{Unwanted, unshelved-sum, each-unshelved}
 use Rattle.placement.proofs.ShelfFilms.{unwanted-total, shelf-sum, shelf-unwanted, shelf-each}
 use Rattle.placement.proofs.ShelfFormed.{shelved-accepted}
@@ -29,23 +32,32 @@ remaining-occurrences [] list usable f = omega arith
 remaining-occurrences (d ∷ ds) list usable f =
     omega (arith, remaining-occurrences ds (listAfter d list) (usable .2) f, after-occurrences d list (usable .0) (usable .1) f)
 
-module _ (rack : List Disk) (records : List Item) (usable : Usable rack) (accepted : RecordsAccepted records) where
+module _ (rack : List Disk) (records : List Item) (usable : Usable (filling rack)) (accepted : RecordsAccepted records) where
   abbrev list : List Item
   list = listOf records
 
   abbrev films : List Item
   films = shelfFilms records
 
-  abbrev placed : List (List Item)
-  placed = placement rack list
+  -- The method's copies, in filling order and by number.
+  abbrev ordered : List (List Item)
+  ordered = placement (filling rack) list
+
+  abbrev laid : List (List Item)
+  laid = placed rack list
+
+  -- They are the same copies.
+  pub placed-sum : (w : Item → ℕ) → sumBy w (together laid) ≡ sumBy w (together ordered)
+  placed-sum w = byNumber-sum w rack ordered (placement-length (filling rack) list ∙ filling-length rack)
 
   -- The films that find no free slot.
   abbrev pub without : List Item
-  without = unshelved rack films placed
+  without = unshelved rack films laid
 
   -- A film that is not in the method's list is on no disk of the method.
-  pub placed-absent : (f : ℕ) → occurrences f list ≡ 0 → occurrences f (together placed) ≡ 0
-  placed-absent f none = onWindows-absent rack list placed usable (sameCopies-onWindows rack list placed usable refl) f none
+  pub placed-absent : (f : ℕ) → occurrences f list ≡ 0 → occurrences f (together laid) ≡ 0
+  placed-absent f none =
+      placed-sum (oneIf f) ∙ onWindows-absent (filling rack) list ordered usable (sameCopies-onWindows (filling rack) list ordered usable refl) f none
 
   films-entries : Each (Entry 0) films
   films-entries =
@@ -56,18 +68,19 @@ module _ (rack : List Disk) (records : List Item) (usable : Usable rack) (accept
       entry x both = record { filmLeast = both .0 .filmLeast; filmMost = both .0 .filmMost; amountMost = omega (arith, both .1) }
 
   -- The copies of each disk are accepted.
-  pub copies-accepted : disksAccepted rack (shelved rack films placed) ≡ true
+  pub copies-accepted : disksAccepted rack (shelved rack films laid) ≡ true
   copies-accepted =
-      shelved-accepted rack films placed films-entries (λ f. omega (arith, shelf-sum records (oneIf f), accepted .distinct f))
+      shelved-accepted rack films laid films-entries (λ f. omega (arith, shelf-sum records (oneIf f), accepted .distinct f))
       (λ f here. placed-absent f (omega (arith, shelf-sum records (oneIf f), accepted .distinct f)))
-      (placement-accepted rack list usable (listOf-entries records accepted) (listOf-distinct records (accepted .distinct)))
+      (accepted-byNumber rack ordered
+      (placement-accepted (filling rack) list usable (listOf-entries records accepted) (listOf-distinct records (accepted .distinct))))
 
   -- What is left: the films without a free slot, and what the method leaves.
   abbrev pub left : List Item
-  left = without ++ remaining rack list
+  left = without ++ remaining (filling rack) list
 
-  pub left-sum : (w : Item → ℕ) → sumBy w left ≡ sumBy w without + sumBy w (remaining rack list)
-  left-sum w = sumBy-append w without (remaining rack list)
+  pub left-sum : (w : Item → ℕ) → sumBy w left ≡ sumBy w without + sumBy w (remaining (filling rack) list)
+  left-sum w = sumBy-append w without (remaining (filling rack) list)
 
   -- Its films are distinct,
   pub left-distinct : Distinct left
@@ -75,8 +88,8 @@ module _ (rack : List Disk) (records : List Item) (usable : Usable rack) (accept
       omega (
         arith,
         left-sum (oneIf f),
-        unshelved-sum (oneIf f) rack films placed,
-        remaining-occurrences rack list usable f,
+        unshelved-sum (oneIf f) rack films laid,
+        remaining-occurrences (filling rack) list usable f,
         shelf-sum records (oneIf f),
         accepted .distinct f,
       )
@@ -87,11 +100,11 @@ module _ (rack : List Disk) (records : List Item) (usable : Usable rack) (accept
       omega (
         arith,
         left-sum one,
-        unshelved-sum one rack films placed,
-        remaining-count rack list usable,
+        unshelved-sum one rack films laid,
+        remaining-count (filling rack) list usable,
         shelf-sum records one,
         length-sum left,
-        length-sum (remaining rack list),
+        length-sum (remaining (filling rack) list),
         length-sum list,
         length-sum records,
       )
@@ -99,18 +112,18 @@ module _ (rack : List Disk) (records : List Item) (usable : Usable rack) (accept
   -- entries,
   pub left-entries : Each (Entry mostDemand) left
   left-entries =
-      each-append (Entry mostDemand) without (remaining rack list)
-      (each-map (Entry 0) (Entry mostDemand) without wider (each-unshelved (Entry 0) rack films placed films-entries))
-      (remaining-entries rack list usable (listOf-entries records accepted))
+      each-append (Entry mostDemand) without (remaining (filling rack) list)
+      (each-map (Entry 0) (Entry mostDemand) without wider (each-unshelved (Entry 0) rack films laid films-entries))
+      (remaining-entries (filling rack) list usable (listOf-entries records accepted))
     where
       wider : (x : Item) → Entry 0 x → Entry mostDemand x
       wider x entry = record { filmLeast = entry .filmLeast; filmMost = entry .filmMost; amountMost = omega (arith, entry .amountMost) }
 
   -- and in sum what the method leaves.
-  pub left-total : total left ≡ unserved rack list
+  pub left-total : total left ≡ unserved (filling rack) list
   left-total =
       omega (
         arith,
         left-sum amountOf,
-        unwanted-total without (each-unshelved Unwanted rack films placed (shelf-unwanted records)),
+        unwanted-total without (each-unshelved Unwanted rack films laid (shelf-unwanted records)),
       )

@@ -8,6 +8,7 @@ use Rattle.placement.specs.Rack.{Disk}
 use Rattle.placement.specs.Window.{within, windowOf}
 use Rattle.placement.specs.Disk.{copiesOf, listAfter}
 use Rattle.placement.specs.Method.{placement, remaining}
+use Rattle.placement.specs.FillingOrder.{filling, placed}
 use Rattle.placement.specs.Shelf.{shelfFilms, shelved}
 use Rattle.placement.specs.ShelfPromise.{copyCount, ShelfPromise}
 use Rattle.placement.specs.WellFormed.{Each, RecordsAccepted}
@@ -22,7 +23,7 @@ use Rattle.placement.proofs.Shelving.{Unwanted, shelved-sum, each-unshe
 use Rattle.placement.proofs.ShelfFilms.{Wanted, ascending-wanted, shelf-sum, shelf-unwanted, listed-absent, shelf-absent}
 use Rattle.placement.proofs.Viewed.{placed-viewed, remains-viewed}
 use Rattle.placement.proofs.ShelfFormed.{full-slots}
-use Rattle.placement.proofs.ShelfPlan.{remaining-occurrences, without, left, placed-absent, copies-accepted, left-sum}
+use Rattle.placement.proofs.ShelfPlan.{remaining-occurrences, without, left, placed-sum, placed-absent, copies-accepted, left-sum}
 
 -- The copies of a film over all disks.
 together-copies : (f : ℕ) (layout : List (List Item)) → copyCount f layout ≡ occurrences f (together layout)
@@ -44,15 +45,15 @@ placed-or-left (d ∷ ds) list usable f =
       after-sum d list (usable .0) (usable .1) (oneIf f),
     )
 
-module _ (rack : List Disk) (records : List Item) (usable : Usable rack) (accepted : RecordsAccepted records) where
+module _ (rack : List Disk) (records : List Item) (usable : Usable (filling rack)) (accepted : RecordsAccepted records) where
   abbrev list : List Item
   list = listOf records
 
   abbrev films : List Item
   films = shelfFilms records
 
-  abbrev placed : List (List Item)
-  placed = placement rack list
+  abbrev laid : List (List Item)
+  laid = placed rack list
 
   abbrev rest : List Item
   rest = without rack records usable accepted
@@ -60,30 +61,30 @@ module _ (rack : List Disk) (records : List Item) (usable : Usable rack) (accept
   -- The copies and left films of a film: the method's, and the film itself where its demand is 0.
   all-films :
       (f : ℕ)
-      → copyCount f (shelved rack films placed) + occurrences f (byFilm (left rack records usable accepted))
-      ≡ occurrences f (together placed) + occurrences f films + occurrences f (remaining rack list)
+      → copyCount f (shelved rack films laid) + occurrences f (byFilm (left rack records usable accepted))
+      ≡ occurrences f (together laid) + occurrences f films + occurrences f (remaining (filling rack) list)
   all-films f =
       omega (
         arith,
-        together-copies f (shelved rack films placed),
-        shelved-sum (oneIf f) rack films placed,
+        together-copies f (shelved rack films laid),
+        shelved-sum (oneIf f) rack films laid,
         sumBy-byFilm (oneIf f) (left rack records usable accepted),
         left-sum rack records usable accepted (oneIf f),
       )
 
   -- A film of demand 0 is neither on a disk of the method nor left by it.
-  not-placed : (f : ℕ) → amountFor f records ≡ 0 → (occurrences f (together placed) ≡ 0) × (occurrences f (remaining rack list) ≡ 0)
+  not-placed : (f : ℕ) → amountFor f records ≡ 0 → (occurrences f (together laid) ≡ 0) × (occurrences f (remaining (filling rack) list) ≡ 0)
   not-placed f none =
       let absent = listed-absent records f none in
-      (placed-absent rack records usable accepted f absent, omega (arith, remaining-occurrences rack list usable f))
+      (placed-absent rack records usable accepted f absent, omega (arith, remaining-occurrences (filling rack) list usable f))
 
-  pub shelf-promise : ShelfPromise rack records (shelved rack films placed) (byFilm (left rack records usable accepted))
+  pub shelf-promise : ShelfPromise rack records (shelved rack films laid) (byFilm (left rack records usable accepted))
   shelf-promise = record {
     viewed = placed-viewed rack films list usable (shelf-unwanted records) wanted;
     leaves =
         remains-viewed rack films list usable (shelf-unwanted records) wanted rest
-        (each-unshelved Unwanted rack films placed (shelf-unwanted records));
-    present = λ f here. omega (arith, all-films f, placed-or-left rack list usable f, shelf-sum records (oneIf f));
+        (each-unshelved Unwanted rack films laid (shelf-unwanted records));
+    present = λ f here. omega (arith, all-films f, placed-or-left (filling rack) list usable f, placed-sum rack records usable accepted (oneIf f), shelf-sum records (oneIf f));
     once = λ f none.
         omega (arith, all-films f, not-placed f none .0, not-placed f none .1, listed-absent records f none, shelf-sum records (oneIf f));
     notShelved = λ f some.
@@ -91,12 +92,12 @@ module _ (rack : List Disk) (records : List Item) (usable : Usable rack) (accept
           arith,
           all-films f,
           shelf-absent records (accepted .distinct) f some,
-          together-copies f placed,
-          sumBy-byFilm (oneIf f) (remaining rack list),
+          together-copies f laid,
+          sumBy-byFilm (oneIf f) (remaining (filling rack) list),
         );
     slotsTaken = λ f none here.
-        full-slots rack (shelved rack films placed) (copies-accepted rack records usable accepted)
-        (unshelved-full rack films placed
+        full-slots rack (shelved rack films laid) (copies-accepted rack records usable accepted)
+        (unshelved-full rack films laid
         (omega (
           arith,
           sumBy-byFilm (oneIf f) (left rack records usable accepted),

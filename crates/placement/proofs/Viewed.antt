@@ -10,6 +10,7 @@ use Rattle.placement.specs.Rack.{Disk}
 use Rattle.placement.specs.Window.{within, outside, windowOf}
 use Rattle.placement.specs.Disk.{allButLast, stored, remainder, copiesOf, listAfter}
 use Rattle.placement.specs.Method.{placement, remaining, leftOf}
+use Rattle.placement.specs.FillingOrder.{filling, byNumber, placed}
 use Rattle.placement.specs.Shelf.{hasFreeSlot, shelvedOne, shelved}
 use Rattle.placement.specs.ShelfPromise.{withAmount}
 use Rattle.placement.specs.WellFormed.{Each}
@@ -18,6 +19,7 @@ use Rattle.placement.proofs.Windows.{window-cases, window-last-needed}
 use Rattle.placement.proofs.Disks.{stored-below, stored-reaching}
 use Rattle.placement.proofs.Films.{Usable}
 use Rattle.placement.proofs.Each.{each-append, each-within, each-outside, each-allButLast, each-enter, each-byFilm}
+use Rattle.placement.proofs.FillingOrder.{byNumber-map}
 use Rattle.placement.proofs.Shelving.{Unwanted}
 use Rattle.placement.proofs.ShelfFilms.{Wanted}
 
@@ -106,11 +108,15 @@ remaining-viewed (d ∷ ds) list usable all =
     remaining-viewed ds (listAfter d list) (usable .2) (after-viewed d list (usable .0) (usable .1) all)
 
 -- The copies with viewers are the method's, and so are the left films with an amount.
-module _ (rack : List Disk) (films list : List Item) (usable : Usable rack) (none : Each Unwanted films) (all : Each Wanted list) where
-  pub placed-viewed : map withAmount (shelved rack films (placement rack list)) ≡ placement rack list
-  placed-viewed = shelved-viewed rack films (placement rack list) none ∙ placement-viewed rack list usable all
+module _ (rack : List Disk) (films list : List Item) (usable : Usable (filling rack)) (none : Each Unwanted films) (all : Each Wanted list) where
+  pub placed-viewed : map withAmount (shelved rack films (placed rack list)) ≡ placed rack list
+  placed-viewed =
+      shelved-viewed rack films (placed rack list) none
+      ∙ byNumber-map withAmount [] rack (placement (filling rack) list)
+      ∙ ap (byNumber [] rack) (placement-viewed (filling rack) list usable all)
 
-  pub remains-viewed : (rest : List Item) → Each Unwanted rest → withAmount (byFilm (rest ++ remaining rack list)) ≡ leftOf rack list
+  pub remains-viewed :
+      (rest : List Item) → Each Unwanted rest → withAmount (byFilm (rest ++ remaining (filling rack) list)) ≡ leftOf (filling rack) list
   remains-viewed rest without =
-      left-viewed rest (remaining rack list) without
-      ∙ with-all (leftOf rack list) (each-byFilm Wanted (remaining rack list) (remaining-viewed rack list usable all))
+      left-viewed rest (remaining (filling rack) list) without
+      ∙ with-all (leftOf (filling rack) list) (each-byFilm Wanted (remaining (filling rack) list) (remaining-viewed (filling rack) list usable all))

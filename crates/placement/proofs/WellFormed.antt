@@ -1,33 +1,29 @@
 -- The plan of accepted records, disk by disk: its copies are accepted, window sums are bounded, and what is left are entries.
-use mathlib.Core.Path.{_≡_, refl, sym, subst}
+use mathlib.Core.Path.{_≡_, refl}
 use mathlib.Core.Bool.{true}
 use mathlib.Core.List.{List, [], _∷_}
 use Prim.Native.Nat.{ℕ, zero, suc, _≤_}
 use native.Mathlib.Omega.{arith}
 use lib.ListN.{length, take}
 use Rattle.placement.specs.Items.{Item, listOf}
-use Rattle.placement.specs.Rack.{Disk, rackOf, firstSlots, firstLoad, rackAccepted, mostDemand}
+use Rattle.placement.specs.Rack.{Disk, rackAccepted, mostDemand}
 use Rattle.placement.specs.Disk.{copiesOf, listAfter}
 use Rattle.placement.specs.Method.{placement, remaining}
+use Rattle.placement.specs.FillingOrder.{filling}
 use Rattle.placement.specs.Plan.{diskAccepted, disksAccepted}
 use Rattle.placement.specs.Promise.{Distinct}
 use Rattle.placement.specs.WellFormed.{Each, Demanded, RecordsAccepted, Entry, WindowsBounded}
 use Rattle.placement.proofs.Conjunctions.{and-holds}
-use Rattle.placement.proofs.Racks.{accepted-slots, accepted-load, accepted-equal}
 use Rattle.placement.proofs.Films.{Usable, after-distinct}
+use Rattle.placement.proofs.FillingOrder.{each-filling}
+use Rattle.placement.proofs.DiskRanges.{DiskInRange, accepted-range, range-usable}
 use Rattle.placement.proofs.Each.{each-map, each-listOf}
 use Rattle.placement.proofs.Entries.{after-count, after-entries, copies-accepted}
 use Rattle.placement.proofs.WindowSums.{windows-summed, window-summed}
 
--- Equal disks with slots and load can be used, and so can those of an accepted rack.
-pub rack-usable : (n k l : ℕ) → 1 ≤ k → 1 ≤ l → Usable (rackOf n k l)
-rack-usable zero k l someSlots someLoad = tt
-rack-usable (suc n) k l someSlots someLoad = (someSlots, someLoad, rack-usable n k l someSlots someLoad)
-
-pub accepted-usable : (rack : List Disk) → rackAccepted rack ≡ true → Usable rack
-accepted-usable rack e =
-    subst Usable (sym (accepted-equal rack e))
-    (rack-usable (length rack) (firstSlots rack) (firstLoad rack) (accepted-slots rack e .0) (accepted-load rack e .0))
+-- The disks of an accepted rack can be used, in filling order.
+pub accepted-usable : (rack : List Disk) → rackAccepted rack ≡ true → Usable (filling rack)
+accepted-usable rack e = range-usable (filling rack) (each-filling DiskInRange rack (accepted-range rack e))
 
 -- The first disks of those that can be used can be used.
 pub usable-take : (n : ℕ) (rack : List Disk) → Usable rack → Usable (take n rack)

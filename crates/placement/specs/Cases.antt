@@ -156,19 +156,38 @@ shelves =
     ∷ row (rackOf 2 2 9) (4 ∶ 0 ∷ 1 ∶ 2 ∷ []) (plans 2 0 0 (1 ∶ 2 ∷ 4 ∶ 0 ∷ none ∷ none ∷ []) (2 ∷ 0 ∷ []) (none ∷ none ∷ []))
     ∷ []
 
--- 1: N, k or L outside its range, or unequal disks, also where the list is at fault too.
+-- Unequal disks. Disk 2 has fewer slots and is filled first. Of disks with equal slots the lower number is filled first, and the largest last.
+-- Shelf copies go by disk number, and disk 1 takes them though disk 2 was filled first and has a free slot. Two viewers are left of a rack that
+-- just fits.
+abbrev pub unequal : List Row
+unequal =
+    row (disk 4 8 ∷ disk 2 4 ∷ []) (1 ∶ 3 ∷ 2 ∶ 4 ∷ 3 ∶ 5 ∷ [])
+    (plans 12 0 0 (2 ∶ 3 ∷ 3 ∶ 5 ∷ none ∷ none ∷ 1 ∶ 3 ∷ 2 ∶ 1 ∷ []) (2 ∷ 2 ∷ []) (replicate 3 none))
+    ∷ row (disk 1 2 ∷ disk 2 4 ∷ disk 1 2 ∷ []) (1 ∶ 1 ∷ 2 ∶ 2 ∷ 3 ∶ 3 ∷ [])
+    (plans 6 0 0 (2 ∶ 2 ∷ 1 ∶ 1 ∷ 3 ∶ 1 ∷ 3 ∶ 2 ∷ []) (1 ∷ 2 ∷ 1 ∷ []) (replicate 3 none))
+    ∷ row (disk 4 8 ∷ disk 2 4 ∷ []) (9 ∶ 4 ∷ 2 ∶ 0 ∷ 1 ∶ 0 ∷ [])
+    (plans 4 0 0 (1 ∶ 0 ∷ 2 ∶ 0 ∷ none ∷ none ∷ 9 ∶ 4 ∷ none ∷ []) (2 ∷ 1 ∷ []) (replicate 3 none))
+    ∷ row (disk 2 6 ∷ disk 1 3 ∷ []) (1 ∶ 2 ∷ 2 ∶ 2 ∷ 3 ∶ 5 ∷ [])
+    (plans 7 2 1 (2 ∶ 2 ∷ 3 ∶ 2 ∷ 3 ∶ 3 ∷ []) (2 ∷ 1 ∷ []) (1 ∶ 2 ∷ none ∷ none ∷ []))
+    ∷ []
+
+-- 12: no entries, more than 64, or one outside its ranges, wherever it stands, also where a ratio or the list is at fault too.
+-- 13, with the entry: the first of another ratio than entry 1, also where the list is at fault too.
 abbrev pub rackRefusals : List Row
 rackRefusals =
-    row (rackOf 65 1 1) [] (refuses 1 0)
-    ∷ row (rackOf 0 1 1) [] (refuses 1 0)
-    ∷ row (rackOf 1 0 1) [] (refuses 1 0)
-    ∷ row (rackOf 1 33 1) [] (refuses 1 0)
-    ∷ row (rackOf 1 1 0) [] (refuses 1 0)
-    ∷ row (rackOf 1 1 65536) (7 ∶ 5 ∷ []) (refuses 1 0)
-    ∷ row (disk 1 5 ∷ disk 2 5 ∷ []) [] (refuses 1 0)
-    ∷ row (disk 1 5 ∷ disk 1 6 ∷ []) [] (refuses 1 0)
-    ∷ row (rackOf 65 1 1) (0 ∶ 1 ∷ []) (refuses 1 0)
-    ∷ refusal (rackOf 1 33 1) (0 ∷ []) (sevens 0 0 0) 1 0
+    row [] [] (refuses 12 0)
+    ∷ row (rackOf 65 1 1) [] (refuses 12 0)
+    ∷ row (rackOf 1 0 1) [] (refuses 12 0)
+    ∷ row (rackOf 1 33 1) [] (refuses 12 0)
+    ∷ row (rackOf 1 1 0) [] (refuses 12 0)
+    ∷ row (rackOf 1 1 65536) (7 ∶ 5 ∷ []) (refuses 12 0)
+    ∷ row (disk 2 4 ∷ disk 33 66 ∷ []) [] (refuses 12 0)
+    ∷ row (disk 2 4 ∷ disk 3 7 ∷ disk 2 0 ∷ []) [] (refuses 12 0)
+    ∷ row (rackOf 65 1 1) (0 ∶ 1 ∷ []) (refuses 12 0)
+    ∷ refusal (rackOf 1 33 1) (0 ∷ []) (sevens 0 0 0) 12 0
+    ∷ row (disk 2 4 ∷ disk 4 8 ∷ disk 3 7 ∷ []) [] (refuses 13 3)
+    ∷ row (disk 1 5 ∷ disk 2 5 ∷ disk 1 6 ∷ []) [] (refuses 13 2)
+    ∷ refusal (disk 1 5 ∷ disk 1 6 ∷ []) (0 ∷ []) (sevens 0 0 0) 13 2
     ∷ []
 
 -- 2 comes before 3, and 3 before 7. 1,024 records are not 3: here the first of them is at fault.
@@ -181,13 +200,14 @@ shapeRefusals =
     ∷ refusal (rackOf 1 1 5) (replicate 8192 0) (sevens 1 1 1024) 4 1
     ∷ []
 
--- 7: each table one place too short, also where a record is at fault.
+-- 7: each table one place too short, also where a record is at fault. The copy table has a place for each slot of each disk.
 abbrev pub roomRefusals : List Row
 roomRefusals =
     refusal (rackOf 2 2 5) (bytesOf (7 ∶ 5 ∷ [])) (sevens 3 2 1) 7 0
     ∷ refusal (rackOf 2 2 5) (bytesOf (7 ∶ 5 ∷ [])) (sevens 4 1 1) 7 0
     ∷ refusal (rackOf 2 2 5) (bytesOf (7 ∶ 5 ∷ 8 ∶ 0 ∷ [])) (sevens 4 2 1) 7 0
     ∷ refusal (rackOf 2 2 5) (bytesOf (0 ∶ 5 ∷ [])) (sevens 4 2 0) 7 0
+    ∷ refusal (disk 4 8 ∷ disk 2 4 ∷ []) [] (sevens 5 2 0) 7 0
     ∷ []
 
 -- Record by record: 4, 5, 6 in this order within a record, and the first record with a fault decides.
@@ -207,4 +227,4 @@ recordRefusals =
 
 -- The whole table.
 abbrev pub rows : List Row
-rows = cases ++ (edges ++ (shelves ++ (rackRefusals ++ (shapeRefusals ++ (roomRefusals ++ recordRefusals)))))
+rows = cases ++ (edges ++ (shelves ++ (unequal ++ (rackRefusals ++ (shapeRefusals ++ (roomRefusals ++ recordRefusals))))))

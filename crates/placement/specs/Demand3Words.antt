@@ -2,7 +2,7 @@
 use Prim.Native.Nat.{ℕ}
 use mathlib.Core.List.{List, [], _∷_, _++_, map}
 use Rattle.placement.specs.Items.{Item, item, _∶_, listOf}
-use Rattle.placement.specs.Rack.{Disk, rackOf}
+use Rattle.placement.specs.Rack.{Disk, disk, rackOf}
 use Rattle.placement.specs.Method.{placement}
 
 -- The sharing that gives every copy 0 viewers.
@@ -101,3 +101,13 @@ disksH = rackOf 1 1 5
 
 abbrev pub demandsH : List Item
 demandsH = 7 ∶ 5 ∷ 2 ∶ 5 ∷ []
+
+-- Unequal disks, of which the second is filled first: rack, demands and copies.
+abbrev pub disksU : List Disk
+disksU = disk 2 6 ∷ disk 1 3 ∷ []
+
+abbrev pub demandsU : List Item
+demandsU = 1 ∶ 2 ∷ 2 ∶ 2 ∷ 3 ∶ 5 ∷ []
+
+abbrev pub copiesU : List (List Item)
+copiesU = (2 ∶ 2 ∷ 3 ∶ 2 ∷ []) ∷ (3 ∶ 3 ∷ []) ∷ []

@@ -3,14 +3,17 @@ pub mod Rack
 pub mod Window
 pub mod Disk
 pub mod Method
+pub mod FillingOrder
 pub mod Shelf
 pub mod Sharing
 pub mod Records
 pub mod Tables
+pub mod Packed
 pub mod Plan
 pub mod PlanExamples
 pub mod Held
 pub mod Planning
+pub mod EqualPlan
 pub mod Promise
 pub mod ShelfPromise
 pub mod WellFormed

@@ -27,6 +27,7 @@ formedPlans =
     ∷ small (item 7 0 ∷ item 8 5 ∷ []) (item 2 0 ∷ item 7 1 ∷ [])
     ∷ small (item 7 5 ∷ item 8 0 ∷ []) (item 1 1 ∷ item 65535 0 ∷ [])
     ∷ plan (rackOf 2 2 5) ((item 7 0 ∷ item 8 0 ∷ []) ∷ (item 7 5 ∷ item 8 0 ∷ []) ∷ []) (item 7 0 ∷ item 8 0 ∷ [])
+    ∷ plan (disk 2 4 ∷ disk 1 2 ∷ []) ((item 7 1 ∷ item 8 3 ∷ []) ∷ (item 7 2 ∷ []) ∷ []) []
     ∷ []
 
 -- By rule: the rack, the lists of copies, the copies of a disk, what is left.
@@ -36,6 +37,9 @@ brokenPlans =
     ∷ plan (rackOf 1 33 5) ([] ∷ []) []
     ∷ plan (rackOf 1 2 65536) ([] ∷ []) []
     ∷ plan (disk 2 5 ∷ disk 2 4 ∷ []) ([] ∷ [] ∷ []) []
+    ∷ plan (disk 2 4 ∷ disk 33 66 ∷ []) ([] ∷ [] ∷ []) []
+    ∷ plan (disk 2 4 ∷ disk 1 2 ∷ []) ([] ∷ (item 7 1 ∷ item 8 1 ∷ []) ∷ []) []
+    ∷ plan (disk 2 4 ∷ disk 1 2 ∷ []) ([] ∷ (item 7 3 ∷ []) ∷ []) []
     ∷ plan (rackOf 2 2 5) ([] ∷ []) []
     ∷ plan (rackOf 1 2 5) ([] ∷ [] ∷ []) []
     ∷ small (item 7 1 ∷ item 8 1 ∷ item 9 1 ∷ []) []

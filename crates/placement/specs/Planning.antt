@@ -1,12 +1,13 @@
 -- What planning answers and what the lent tables hold afterwards, for every call.
-use Prim.Native.Nat.{ℕ}
-use mathlib.Core.List.{List, map, _++_}
+use Prim.Native.Nat.{ℕ, suc}
+use mathlib.Core.List.{List, [], _∷_, map, _++_}
 use lib.ListN.{length}
 use Rattle.refusal.specs.Verdict.{Verdict, given, unless, Numbers, answered, afterwards}
 use Rattle.placement.specs.Items.{Item, listOf, byFilm}
-use Rattle.placement.specs.Rack.{Disk, rackAccepted}
+use Rattle.placement.specs.Rack.{Disk, firstSlots, firstLoad, disksInRange, sameRatio}
 use Rattle.placement.specs.Records.{recordCount, recordsOf, shapeJudged, recordsJudged}
-use Rattle.placement.specs.Method.{placement, remaining, served, unserved}
+use Rattle.placement.specs.Method.{remaining, served, unserved}
+use Rattle.placement.specs.FillingOrder.{filling, placed}
 use Rattle.placement.specs.Shelf.{shelfFilms, shelved, unshelved}
 use Rattle.placement.specs.Tables.{Tables, entryOf, padded, roomFor, holding}
 use Rattle.placement.specs.Plan.{Plan}
@@ -22,9 +23,18 @@ call rack list = record { rack = rack; list = list }
 abbrev pub recordsIn : Call → List Item
 recordsIn c = recordsOf (c .list)
 
--- 1, N, k or L outside its range; then what comes next.
+-- 13, with the entry: the first, from a position on, whose load times the given slots differs from the given load times its slots; then
+-- what comes next.
+abbrev pub ratioJudgedFrom : {A : Type 0} → (slots load position : ℕ) → List Disk → Verdict A → Verdict A
+ratioJudgedFrom slots load position [] following = following
+ratioJudgedFrom slots load position (d ∷ ds) following =
+    let rest = ratioJudgedFrom slots load (suc position) ds following in
+    unless (sameRatio slots load d) 13 position rest
+
+-- 12, no entries, more than 64, or one outside its ranges; 13, one of another ratio than entry 1; then what comes next.
 abbrev pub rackJudged : {A : Type 0} → List Disk → Verdict A → Verdict A
-rackJudged rack following = unless (rackAccepted rack) 1 0 following
+rackJudged rack following =
+    unless (disksInRange rack) 12 0 (ratioJudgedFrom (firstSlots rack) (firstLoad rack) 1 rack following)
 
 -- 7, a lent table too short: copy table below all slots, count table below the disks, left table below n; then what comes next.
 abbrev pub roomJudged : {A : Type 0} → List Disk → ℕ → Tables → Verdict A → Verdict A
@@ -40,11 +50,11 @@ verdict c t =
 
 -- The method's copies for a call.
 abbrev pub placedIn : Call → List (List Item)
-placedIn c = placement (c .rack) (listOf (recordsIn c))
+placedIn c = placed (c .rack) (listOf (recordsIn c))
 
 -- What is left of a call: the films of demand 0 that find no free slot, and what the method leaves.
 abbrev pub leftIn : Call → List Item
-leftIn c = unshelved (c .rack) (shelfFilms (recordsIn c)) (placedIn c) ++ remaining (c .rack) (listOf (recordsIn c))
+leftIn c = unshelved (c .rack) (shelfFilms (recordsIn c)) (placedIn c) ++ remaining (filling (c .rack)) (listOf (recordsIn c))
 
 -- The plan of a call: the method's copies of each disk and the shelf copies behind them, and what is left by ascending film.
 abbrev pub planIn : Call → Plan
@@ -64,7 +74,7 @@ abbrev pub sums : (served unserved left : ℕ) → PlanSums
 sums s u left = record { served = s; unserved = u; left = left }
 
 abbrev pub sumsIn : Call → PlanSums
-sumsIn c = sums (served (planIn c .copies)) (unserved (c .rack) (listOf (recordsIn c))) (length (planIn c .left))
+sumsIn c = sums (served (planIn c .copies)) (unserved (filling (c .rack)) (listOf (recordsIn c))) (length (planIn c .left))
 
 -- The numbers of a verdict on a call.
 abbrev pub answerFor : Call → Verdict (Unit {0}) → Numbers PlanSums

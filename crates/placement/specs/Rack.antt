@@ -1,5 +1,5 @@
 -- Document 01's vocabulary: slots, load, disks, the rack as a list of disks by number, and the accepted ranges.
-use Prim.Native.Nat.{ℕ, _+_, min}
+use Prim.Native.Nat.{ℕ, _+_, _*_, min}
 use mathlib.Core.Bool.{Bool, true, _&&_}
 use mathlib.Core.List.{List, [], _∷_}
 use lib.Dec.{leb, eqb}
@@ -31,7 +31,7 @@ abbrev pub allLoads : List Disk → ℕ
 allLoads [] = 0
 allLoads (d ∷ ds) = d .load + allLoads ds
 
--- Slots and load of disk 1: 01's k and L, where all disks are equal.
+-- Slots and load of disk 1: 01's k and L where all disks are equal, and the ratio of a rack.
 abbrev pub firstSlots : List Disk → ℕ
 firstSlots [] = 0
 firstSlots (d ∷ ds) = d .slots
@@ -85,7 +85,32 @@ abbrev pub allLike : ℕ → ℕ → List Disk → Bool
 allLike slots load [] = true
 allLike slots load (d ∷ ds) = (eqb slots (d .slots) && eqb load (d .load)) && allLike slots load ds
 
--- "A rack has N equal disks", and N, k and L are in range.
+-- The slots and the load of a disk are in range.
+abbrev pub diskInRange : Disk → Bool
+diskInRange d = inRange mostSlots (d .slots) && inRange mostLoad (d .load)
+
+-- So are those of every disk.
+abbrev pub allInRange : List Disk → Bool
+allInRange [] = true
+allInRange (d ∷ ds) = diskInRange d && allInRange ds
+
+-- There are 1 to 64 disks, each in 01's ranges.
+abbrev pub disksInRange : List Disk → Bool
+disksInRange rack = inRange mostDisks (length rack) && allInRange rack
+
+-- A disk's load times the given slots is the given load times its slots.
+abbrev pub sameRatio : ℕ → ℕ → Disk → Bool
+sameRatio slots load d = eqb (d .load * slots) (load * d .slots)
+
+-- So it is for every disk.
+abbrev pub allSameRatio : ℕ → ℕ → List Disk → Bool
+allSameRatio slots load [] = true
+allSameRatio slots load (d ∷ ds) = sameRatio slots load d && allSameRatio slots load ds
+
+-- "Large and small disks with one ratio of load to slots", each in 01's ranges.
 abbrev pub rackAccepted : List Disk → Bool
-rackAccepted rack =
-    sizesInRange (length rack) (firstSlots rack) (firstLoad rack) && allLike (firstSlots rack) (firstLoad rack) rack
+rackAccepted rack = disksInRange rack && allSameRatio (firstSlots rack) (firstLoad rack) rack
+
+-- All disks of a rack are equal.
+abbrev pub allEqual : List Disk → Bool
+allEqual rack = allLike (firstSlots rack) (firstLoad rack) rack

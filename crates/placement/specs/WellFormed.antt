@@ -9,6 +9,7 @@ use Rattle.placement.specs.Items.{Item, total, listOf}
 use Rattle.placement.specs.Rack.{Disk, allLoads, rackAccepted, mostRecords, mostFilm, mostPlanFilm, mostDemand}
 use Rattle.placement.specs.Window.{Window, within, openings, slidings, windowOf}
 use Rattle.placement.specs.Disk.{listAfter}
+use Rattle.placement.specs.FillingOrder.{filling}
 use Rattle.placement.specs.Records.{recordCount}
 use Rattle.placement.specs.Plan.{wellFormed, servedOf, unservedOf}
 use Rattle.placement.specs.Planning.{Call, recordsIn, planIn}
@@ -60,7 +61,7 @@ pub record Bounded (disks : List Disk) (records : List Item) (s u : ℕ) : Type 
   pub served : s ≤ allLoads disks
   pub unserved : u ≤ total records
   pub demand : total records ≤ mostDemand * length records
-  pub windows : WindowsBounded disks (listOf records)
+  pub windows : WindowsBounded (filling disks) (listOf records)
 
 -- What holds of a call that planning does not refuse: its rack, records and plan are well formed, and its numbers are bounded.
 pub record CallWellFormed (c : Call) : Type 0 where

@@ -1,15 +1,16 @@
-// The rack: slots, streams, the ranges of document 01, and the room that its plans need.
+// The rack of document 01: slots, streams, N equal disks, and their ranges.
 use crate::MOST_DISKS;
 use crate::MOST_SLOTS;
 use crate::MOST_STREAMS;
 ghost use mathlib.Core.Path.{_≡_};
-ghost use Rattle.placement.specs.Rack.{inRange, disksOf, rackAccepted};
-ghost use Rattle.placement.specs.Tables.{roomIn};
+ghost use Rattle.placement.specs.Rack.{inRange, sizesInRange};
 
 // How many films a disk can store: 01's k.
+#[repr(C)]
 pub struct Slots(pub u32);
 
 // How many viewers a disk can serve at a time: 01's load L.
+#[repr(C)]
 pub struct Streams(pub u32);
 
 // A rack of equal disks: 01's N, k and L.
@@ -20,7 +21,7 @@ pub struct Rack {
 }
 
 // Whether a number is at least 1 and at most a limit.
-fn in_range(most: u32, n: u32) -> bool
+pub(crate) fn in_range(most: u32, n: u32) -> bool
     ensures { λ r. ⌜ r ≡ inRange most n ⌝ }
 {
     if n < 1 {
@@ -31,7 +32,7 @@ fn in_range(most: u32, n: u32) -> bool
 
 // Whether each of the rack's numbers is in its range.
 pub fn accepted(rack: Rack) -> bool
-    ensures { λ r. ⌜ r ≡ rackAccepted (disksOf rack) ⌝ }
+    ensures { λ r. ⌜ r ≡ sizesInRange (rack .disks) (rack .slots .0) (rack .streams .0) ⌝ }
 {
     if !in_range(MOST_DISKS, rack.disks) {
         return false;
@@ -40,19 +41,4 @@ pub fn accepted(rack: Rack) -> bool
         return false;
     }
     in_range(MOST_STREAMS, rack.streams.0)
-}
-
-// Whether tables of these lengths have a place for each slot, each disk and each of `films` left films.
-pub fn room(rack: Rack, films: usize, copies: usize, counts: usize, left: usize) -> bool
-    ensures { λ r. ⌜ r ≡ roomIn (disksOf rack) films copies counts left ⌝ }
-{
-    let disks = rack.disks as usize;
-    let slots = rack.slots.0 as usize;
-    if copies < disks * slots {
-        return false;
-    }
-    if counts < disks {
-        return false;
-    }
-    films <= left
 }

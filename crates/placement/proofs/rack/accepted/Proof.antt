@@ -3,23 +3,16 @@ use borrow.Author.Needs.{needs}
 use borrow.Author.Tests.{not-true, not-false}
 use mathlib.Core.Path.{_≡_, _∙_, sym}
 use mathlib.Core.Bool.{true, false, _&&_}
-use Rattle.placement.specs.Rack.{inRange, mostDisks, mostSlots, mostLoad, disksOf, rackAccepted, sizesInRange}
-use Rattle.placement.specs.declared.rack.Rack.{Rack}
+use Rattle.placement.specs.Rack.{inRange, mostDisks, mostSlots, mostLoad}
 use Rattle.placement.proofs.Conjunctions.{first-fails, second-fails, third-decides}
-use Rattle.placement.proofs.Racks.{rack-accepted}
 use Rattle.placement.proofs.rack.accepted.Statement.{statement}
 use Rattle.placement.proofs.rack.accepted.Tie as tie
-
--- the test of the three numbers is the test of the disks
-by-sizes : (rack : Rack) → sizesInRange (rack .disks) (rack .slots .0) (rack .streams .0) ≡ rackAccepted (disksOf rack)
-by-sizes rack = sym (rack-accepted (rack .disks) (rack .slots .0) (rack .streams .0))
 
 returns : tie.Need-returns
 returns c =
     let rack = c .before .before .args .rack in
     first-fails (inRange mostDisks (rack .disks)) (inRange mostSlots (rack .slots .0) && inRange mostLoad (rack .streams .0))
     (sym (c .before .in-range .ensures) ∙ not-true _ (c .if1 .taken))
-    ∙ by-sizes rack
 
 returns-2 : tie.Need-returns-2
 returns-2 c =
@@ -27,7 +20,6 @@ returns-2 c =
     second-fails (inRange mostDisks (rack .disks)) (inRange mostSlots (rack .slots .0)) (inRange mostLoad (rack .streams .0))
     (sym (c .before .before .before .in-range .ensures) ∙ not-false _ (c .before .before .if1 .left))
     (sym (c .before .in-range2 .ensures) ∙ not-true _ (c .if2 .taken))
-    ∙ by-sizes rack
 
 returns-3 : tie.Need-returns-3
 returns-3 c =
@@ -36,7 +28,6 @@ returns-3 c =
     ∙ third-decides (inRange mostDisks (rack .disks)) (inRange mostSlots (rack .slots .0)) (inRange mostLoad (rack .streams .0))
     (sym (c .before .before .before .before .in-range .ensures) ∙ not-false _ (c .before .before .before .if1 .left))
     (sym (c .before .before .in-range2 .ensures) ∙ not-false _ (c .before .if2 .left))
-    ∙ by-sizes rack
 
 pub accepted-spec : {M : Type 1} → statement M
 accepted-spec =
