@@ -12,6 +12,7 @@ use Rattle.placement.specs.Items.{Item, total, amountOf, listOf, byFilm}
 use Rattle.placement.specs.Rack.{allSlots}
 use Rattle.placement.specs.Records.{recordCount}
 use Rattle.placement.specs.Method.{served, unserved}
+use Rattle.placement.specs.FillingOrder.{filling}
 use Rattle.placement.specs.Shelf.{shelfFilms}
 use Rattle.placement.specs.Tables.{Tables, tables, entryOf, padded, written, places}
 use Rattle.placement.specs.Planning.{Call, PlanSums, sums, recordsIn, placedIn, leftIn, planIn, verdict, answerFor, holdingCall}
@@ -53,7 +54,7 @@ tables-same {c} {c'} {n} {n'} {l} {l'} p q r =
 
 -- The numbers of a call that is not refused, and what is left of it.
 module _ (c : Call) (formed : CallWellFormed c) where
-  usable : Usable (c .rack)
+  usable : Usable (filling (c .rack))
   usable = accepted-usable (c .rack) (formed .rack)
 
   -- There are no more films of demand 0 than records.
@@ -99,5 +100,5 @@ module _ (c : Call) (formed : CallWellFormed c) where
         (ap₂ (λ (a b : ℕ). sums a b n)
         (serves ∙ sym (shelved-served (c .rack) (shelfFilms (recordsIn c)) (placedIn c) (shelf-unwanted (recordsIn c))))
         (lacks ∙ ap total left-are ∙ left-total (c .rack) (recordsIn c) usable (formed .accepted))
-        ∙ ap (λ (m : ℕ). sums (served (planIn c .copies)) (unserved (c .rack) (listOf (recordsIn c))) m)
+        ∙ ap (λ (m : ℕ). sums (served (planIn c .copies)) (unserved (filling (c .rack)) (listOf (recordsIn c))) m)
         (count ∙ ap length left-are ∙ sym (byFilm-length (leftIn c))))

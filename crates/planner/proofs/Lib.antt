@@ -15,8 +15,11 @@ pub mod Stored
 pub mod ShelfPlaces
 pub mod Remainder
 pub mod Filling
-pub mod RackRanges
 pub mod WrittenTo
+pub mod FillingKeys
+pub mod FirstPlaces
+pub mod NextDisk
+pub mod StoredInOrder
 pub mod FilledTo
 pub mod ShelvedTo
 pub mod ShelvedMore

@@ -5,7 +5,8 @@ use mathlib.Core.List.{List, map, _++_}
 use Prim.Native.Nat.{ℕ}
 use lib.ListN.{length}
 use Rattle.placement.specs.Items.{Item, listOf}
-use Rattle.placement.specs.Method.{remaining}
+use Rattle.placement.specs.Method.{placement, remaining}
+use Rattle.placement.specs.FillingOrder.{filling}
 use Rattle.placement.specs.Shelf.{shelfFilms, shelved, unshelved}
 use Rattle.placement.specs.Tables.{Tables, written, places}
 use Rattle.placement.specs.Held.{copiesFrom}
@@ -14,6 +15,7 @@ use Rattle.placement.specs.Planning.{Call, recordsIn, placedIn, leftIn, planIn}
 use Rattle.placement.specs.WellFormed.{CallWellFormed}
 use Rattle.placement.proofs.Listed.{listOf-distinct}
 use Rattle.placement.proofs.Formed.{plan-disks}
+use Rattle.placement.proofs.NumberOrder.{accepted-byNumber}
 use Rattle.placement.proofs.WellFormed.{accepted-usable, listOf-entries, placement-accepted}
 use Rattle.planner.specs.Shelf.{Laid}
 use Rattle.planner.proofs.ShelfTables.{layout-held, layout-laid, copies-again, counts-again}
@@ -21,8 +23,9 @@ use Rattle.planner.proofs.ShelfTables.{layout-held, layout-laid, copies
 module _ (c : Call) (formed : CallWellFormed c) where
   placed-accepted : disksAccepted (c .rack) (placedIn c) ≡ true
   placed-accepted =
-      placement-accepted (c .rack) (listOf (recordsIn c)) (accepted-usable (c .rack) (formed .rack)) (listOf-entries (recordsIn c) (formed .accepted))
-      (listOf-distinct (recordsIn c) (formed .accepted .distinct))
+      accepted-byNumber (c .rack) (placement (filling (c .rack)) (listOf (recordsIn c)))
+      (placement-accepted (filling (c .rack)) (listOf (recordsIn c)) (accepted-usable (c .rack) (formed .rack))
+      (listOf-entries (recordsIn c) (formed .accepted)) (listOf-distinct (recordsIn c) (formed .accepted .distinct)))
 
   -- The tables that the method has filled,
   module _
@@ -59,7 +62,7 @@ module _ (c : Call) (formed : CallWellFormed c) where
         -- The films without a slot, and what the method leaves, are what is left.
         pub left-is :
             {rest last : List Item} → rest ≡ unshelved (c .rack) films (copiesFrom (c .rack) copies counts)
-            → last ≡ remaining (c .rack) (listOf (recordsIn c)) → rest ++ last ≡ leftIn c
+            → last ≡ remaining (filling (c .rack)) (listOf (recordsIn c)) → rest ++ last ≡ leftIn c
         left-is without remains =
             ap₂ _++_
             (without

@@ -6,3 +6,4 @@ pub mod Copies
 pub mod Verdicts
 pub mod Plannable
 pub mod Shelf
+pub mod Order

@@ -4,12 +4,12 @@ use crate::build::build;
 use crate::fill::fill_all;
 use crate::left::store_left;
 use crate::shelf::shelve_all;
-use placement::Rack;
 ghost use mathlib.Core.Path.{_≡_};
 ghost use Prim.Native.Nat.{_≤_};
 ghost use lib.ListN.{length};
 ghost use Rattle.refusal.specs.Verdict.{given};
-ghost use Rattle.placement.specs.Rack.{disksOf, mostRecords};
+ghost use Rattle.placement.specs.Rack.{mostRecords};
+ghost use Rattle.placement.specs.Packed.{disksIn};
 ghost use Rattle.placement.specs.Tables.{tables};
 ghost use Rattle.placement.specs.Planning.{call, answerFor, holdingCall};
 ghost use Rattle.planner.specs.Answers.{planNumbers};
@@ -18,18 +18,18 @@ ghost use Rattle.planner.specs.Plannable.{Plannable};
 // Plans into the lent tables, with `keys` as the working list. What is left is one run of it: the films of demand 0 without a slot, and
 // behind them what the method leaves.
 fn fill_with(
-    rack: Rack,
+    rack: &[u64],
     list: &[u8],
     copies: &mut [u64],
     counts: &mut [u32],
     left: &mut [u64],
     keys: &mut [u64],
 ) -> Answer
-    requires { ⌜ Plannable (call (disksOf rack) (now list)) (tables (now copies) (now counts) (now left)) ⌝ }
+    requires { ⌜ Plannable (call (disksIn (now rack)) (now list)) (tables (now copies) (now counts) (now left)) ⌝ }
     requires { ⌜ mostRecords ≤ length (now keys) ⌝ }
-    ensures { λ r. ⌜ planNumbers r ≡ answerFor (call (disksOf rack) (now (list .entry))) (given tt) ⌝ }
+    ensures { λ r. ⌜ planNumbers r ≡ answerFor (call (disksIn (now (rack .entry))) (now (list .entry))) (given tt) ⌝ }
     ensures { λ _. ⌜ tables (now (copies .exit)) (now (counts .exit)) (now (left .exit))
-        ≡ holdingCall (call (disksOf rack) (now (list .entry))) (tables (now (copies .entry)) (now (counts .entry)) (now (left .entry))) ⌝ }
+        ≡ holdingCall (call (disksIn (now (rack .entry))) (now (list .entry))) (tables (now (copies .entry)) (now (counts .entry)) (now (left .entry))) ⌝ }
 {
     let records = list.len() / 8;
     let films = build(list, keys);
@@ -46,16 +46,16 @@ fn fill_with(
 
 // Plans into the lent tables.
 pub(crate) fn fill_tables(
-    rack: Rack,
+    rack: &[u64],
     list: &[u8],
     copies: &mut [u64],
     counts: &mut [u32],
     left: &mut [u64],
 ) -> Answer
-    requires { ⌜ Plannable (call (disksOf rack) (now list)) (tables (now copies) (now counts) (now left)) ⌝ }
-    ensures { λ r. ⌜ planNumbers r ≡ answerFor (call (disksOf rack) (now (list .entry))) (given tt) ⌝ }
+    requires { ⌜ Plannable (call (disksIn (now rack)) (now list)) (tables (now copies) (now counts) (now left)) ⌝ }
+    ensures { λ r. ⌜ planNumbers r ≡ answerFor (call (disksIn (now (rack .entry))) (now (list .entry))) (given tt) ⌝ }
     ensures { λ _. ⌜ tables (now (copies .exit)) (now (counts .exit)) (now (left .exit))
-        ≡ holdingCall (call (disksOf rack) (now (list .entry))) (tables (now (copies .entry)) (now (counts .entry)) (now (left .entry))) ⌝ }
+        ≡ holdingCall (call (disksIn (now (rack .entry))) (now (list .entry))) (tables (now (copies .entry)) (now (counts .entry)) (now (left .entry))) ⌝ }
 {
     let mut keys = [0; 1024];
     fill_with(rack, list, copies, counts, left, &mut keys)

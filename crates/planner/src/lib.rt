@@ -6,6 +6,7 @@ mod fulfil; // fulfil.rt: the plan of a list that is not refused
 mod judge; // judge.rt: the refusals of planning
 mod key; // key.rt: a film with its amount as one number
 mod left; // left.rt: the left table
+mod order; // order.rt: the order in which the disks are filled
 mod shelf; // shelf.rt: shelf copies
 mod store; // store.rt: entries in a lent table
 mod window; // window.rt: the window of a disk
@@ -14,25 +15,24 @@ mod worklist; // worklist.rt: the working list as ascending numbers
 pub use answer::Answer;
 use fulfil::fill_tables;
 use judge::judge;
-use placement::Rack;
 use refusal::Judgement;
-ghost use Rattle.placement.specs.Rack.{disksOf};
+ghost use Rattle.placement.specs.Packed.{disksIn};
 ghost use Rattle.placement.specs.Tables.{tables};
 ghost use Rattle.placement.specs.Planning.{call};
 ghost use Rattle.placement.specs.PlanPromise.{PlanPromise};
 ghost use Rattle.planner.specs.Answers.{planNumbers};
 
-// Plans for a rack, from the bytes of a demand list. A plan goes into the lent tables: each disk's copies from its first place on,
+// Plans for a rack of disks, one number each, from the bytes of a demand list. A plan goes into the lent tables: each disk's copies from its first place on,
 // the number of copies of each disk, and what is left. A refusal changes none of them.
 pub fn plan(
-    rack: Rack,
+    rack: &[u64],
     list: &[u8],
     copies: &mut [u64],
     counts: &mut [u32],
     left: &mut [u64],
 ) -> Answer
     ensures { λ r. ⌜ PlanPromise
-        (call (disksOf rack) (now (list .entry)))
+        (call (disksIn (now (rack .entry))) (now (list .entry)))
         (tables (now (copies .entry)) (now (counts .entry)) (now (left .entry)))
         (tables (now (copies .exit)) (now (counts .exit)) (now (left .exit)))
         (planNumbers r) ⌝ }

@@ -4,7 +4,7 @@ use mathlib.Core.Path.{_≡_, refl, sym, _∙_}
 use Rattle.refusal.specs.Verdict.{given}
 use Rattle.refusal.specs.Numbers.{judged}
 use Rattle.refusal.proofs.Judgements.{passes}
-use Rattle.placement.specs.Rack.{disksOf}
+use Rattle.placement.specs.Packed.{disksIn}
 use Rattle.placement.specs.Tables.{Tables, tables}
 use Rattle.placement.specs.Planning.{Call, call, verdict}
 use Rattle.planner.proofs.Answered.{refused-promise, planned-promise}
@@ -14,11 +14,13 @@ use Rattle.planner.proofs.plan.Tie as tie
 
 -- The call and the tables at entry, as they are seen once the call is judged.
 abbrev called : tie.After-judge → Call
-called c = call (disksOf (c .before .before .before .before .before .args .rack)) (c .before .before .before .before .before .args .list .now)
+called c =
+    let a = c .before .before .before .before .before .before .args in
+    call (disksIn (a .rack .now)) (a .list .now)
 
 abbrev entry : tie.After-judge → Tables
 entry c =
-    let a = c .before .before .before .before .before .args in
+    let a = c .before .before .before .before .before .before .args in
     tables (a .copies .now) (a .counts .now) (a .left .now)
 
 -- The judgement is the verdict.

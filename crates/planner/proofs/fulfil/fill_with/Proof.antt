@@ -8,10 +8,12 @@ use Prim.Native.Nat.{_-_}
 use lib.ListN.{length, drop, length-take, length-drop}
 use Rattle.placement.specs.Items.{Item}
 use Rattle.placement.specs.Rack.{mostDemand}
-use Rattle.placement.specs.Method.{placement, served}
+use Rattle.placement.specs.Method.{served}
+use Rattle.placement.specs.FillingOrder.{placed}
 use Rattle.placement.specs.Planning.{recordsIn}
 use Rattle.placement.specs.WellFormed.{Each, Entry}
 use Rattle.placement.proofs.ReadBack.{front-length}
+use Rattle.placement.proofs.PackedRacks.{disks-length}
 use Rattle.placement.proofs.WellFormed.{listOf-entries}
 use Rattle.planner.proofs.ShelfSteps.{filled-laid, copies-planned, counts-planned}
 use Rattle.planner.proofs.Fulfilled.{left-small, left-films, steps-tables, steps-numbers}
@@ -43,7 +45,7 @@ fill-all-requires c κs =
     let p = start at-build .pre .0 in (
       (
         p .copies,
-        p .counts,
+        omega (arith, p .counts, disks-length (start at-build .args .rack .now)),
         omega (
           arith,
           room at-build,
@@ -62,7 +64,11 @@ shelve-all-requires c κs =
     let at-fill = c .before .before .before .before .before .before .before .before .before in
     let at-build = built at-fill in
     let p = start at-build .pre .0 in (
-      (omega (arith, p .copies), omega (arith, p .counts), omega (arith, keys-length at-fill)),
+      (
+        omega (arith, p .copies),
+        omega (arith, p .counts, disks-length (start at-build .args .rack .now)),
+        omega (arith, keys-length at-fill),
+      ),
       filled-laid (called at-build) (p .formed) (entry at-build) (copies-filled at-fill) (counts-filled at-fill),
     )
 
@@ -108,7 +114,7 @@ returns c =
     let shelved = at-shelve .shelve-all .ensures in
     let formed = start at-build .pre .0 .formed in (
       steps-numbers (called at-build) formed (left-run at-shelve)
-          (at-fill .fill-all .ensures .1 .1 .1 ∙ ap (λ (list : List Item). served (placement rack list)) (list-is at-build))
+          (at-fill .fill-all .ensures .1 .1 .1 ∙ ap (λ (list : List Item). served (placed rack list)) (list-is at-build))
           (at-store .store-left .ensures .1) (sym (front-length (rest at-shelve) (run at-shelve) (run-room at-shelve))),
       steps-tables (called at-build) formed (left-run at-shelve) _ (entry at-build)
           (copies-planned (called at-build) formed (entry at-build) (copies-filled at-fill) (counts-filled at-fill) (films-are at-fill) (shelved .0))

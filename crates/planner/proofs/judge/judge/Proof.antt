@@ -9,11 +9,12 @@ use lib.ListN.{length}
 use Rattle.refusal.specs.Verdict.{Verdict, given, refused}
 use Rattle.refusal.proofs.Verdicts.{andThen, unless-passes, unless-refuses}
 use Rattle.refusal.proofs.Judgements.{passes, refuses}
-use Rattle.placement.specs.Rack.{Disk, disksOf, rackAccepted}
+use Rattle.placement.specs.Rack.{Disk}
+use Rattle.placement.specs.Packed.{disksIn}
 use Rattle.placement.specs.Records.{recordCount, shapeJudged, recordsJudged, listJudged}
 use Rattle.placement.specs.Tables.{Tables, roomIn, roomFor}
-use Rattle.placement.specs.Planning.{call, roomJudged, verdict}
-use Rattle.placement.proofs.Chains.{shape-then}
+use Rattle.placement.specs.Planning.{call, rackJudged, roomJudged, verdict}
+use Rattle.placement.proofs.Chains.{rack-then, shape-then}
 use Rattle.planner.proofs.judge.judge.Statement.{statement}
 use Rattle.planner.proofs.judge.judge.Tie as tie
 
@@ -39,12 +40,15 @@ module _ (rack : List Disk) (list : List ℕ) (t : Tables) where
   abbrev fromRoom : Verdict (Unit {0})
   fromRoom = roomJudged rack (recordCount list) t fromRecords
 
-  rack-refused : rackAccepted rack ≡ false → refused 1 0 ≡ verdict (call rack list) t
-  rack-refused e = sym (unless-refuses (rackAccepted rack) 1 0 (shapeJudged list fromRoom) e)
+  rack-refused :
+      (v : Verdict (Unit {0})) → v ≡ andThen v (shapeJudged list fromRoom) → v ≡ rackJudged rack (given tt) → v ≡ verdict (call rack list) t
+  rack-refused v settles e =
+      settles ∙ ap (λ (w : Verdict (Unit {0})). andThen w (shapeJudged list fromRoom)) e ∙ sym (rack-then rack (shapeJudged list fromRoom))
 
-  module _ (accepted : rackAccepted rack ≡ true) where
+  module _ (accepted : rackJudged {A = Unit {0}} rack (given tt) ≡ given tt) where
     shape-decides : shapeJudged list fromRoom ≡ verdict (call rack list) t
-    shape-decides = sym (unless-passes (rackAccepted rack) 1 0 (shapeJudged list fromRoom) accepted)
+    shape-decides =
+        sym (rack-then rack (shapeJudged list fromRoom) ∙ ap (λ (w : Verdict (Unit {0})). andThen w (shapeJudged list fromRoom)) accepted)
 
     shape-refused : (v : Verdict (Unit {0})) → v ≡ andThen v fromRoom → v ≡ shapeJudged list (given tt) → v ≡ verdict (call rack list) t
     shape-refused v settles e =
@@ -64,50 +68,58 @@ module _ (rack : List Disk) (list : List ℕ) (t : Tables) where
 
 returns : tie.Need-returns
 returns c = λ t copies counts left.
-    let a = c .before .before .before .args in
-    rack-refused (disksOf (a .rack)) (a .list .now) t (told-false (c .before .accepted .ensures) (c .if1 .taken))
+    let at-rack = c .before .before in
+    let a = at-rack .before .before .before .args in
+    rack-refused (disksIn (a .rack .now)) (a .list .now) t _
+    (refuses (at-rack .judge-rack .result) (shapeJudged (a .list .now) (fromRoom (disksIn (a .rack .now)) (a .list .now) t)) (c .before .match .keys2))
+    (at-rack .judge-rack .ensures)
 
 -- the rack is accepted where the shape is judged
-accepted-rack : (c : tie.After-judge-shape) → rackAccepted (disksOf (c .before .before .before .before .args .rack)) ≡ true
-accepted-rack c = told-true (c .before .before .accepted .ensures) (c .before .if1 .left)
+accepted-rack :
+    (c : tie.After-judge-shape) → rackJudged {A = Unit {0}} (disksIn (c .before .before .before .before .before .before .args .rack .now)) (given tt) ≡ given tt
+accepted-rack c =
+    let at-match = c .before .before in
+    sym (at-match .before .judge-rack .ensures) ∙ passes (at-match .before .judge-rack .result) (at-match .match .keys1)
 
 returns-2 : tie.Need-returns-2
 returns-2 c = λ t copies counts left.
     let at-shape = c .before .before in
-    let a = at-shape .before .before .before .before .args in
-    shape-refused (disksOf (a .rack)) (a .list .now) t (accepted-rack at-shape) _
-    (refuses (at-shape .judge-shape .result) (fromRoom (disksOf (a .rack)) (a .list .now) t) (c .before .match .keys2))
+    let a = at-shape .before .before .before .before .before .before .args in
+    shape-refused (disksIn (a .rack .now)) (a .list .now) t (accepted-rack at-shape) _
+    (refuses (at-shape .judge-shape .result) (fromRoom (disksIn (a .rack .now)) (a .list .now) t) (c .before .match2 .keys2))
     (at-shape .judge-shape .ensures)
 
 -- the room that is asked for
 abbrev room-asked : tie.After-judge-shape → Bool
 room-asked c =
-    let a = c .before .before .before .before .args in
-    roomIn (disksOf (a .rack)) (recordCount (a .list .now)) (a .copies) (a .counts) (a .left)
+    let a = c .before .before .before .before .before .before .args in
+    roomIn (disksIn (a .rack .now)) (recordCount (a .list .now)) (a .copies) (a .counts) (a .left)
 
 returns-3 : tie.Need-returns-3
 returns-3 c = λ t copies counts left.
     let at-match = c .before .before .before in
     let at-shape = at-match .before in
-    let a = at-shape .before .before .before .before .args in
-    room-refused (disksOf (a .rack)) (a .list .now) t (accepted-rack at-shape)
-    (sym (at-shape .judge-shape .ensures) ∙ passes (at-shape .judge-shape .result) (at-match .match .keys1))
-    (room-by (disksOf (a .rack)) (recordCount (a .list .now)) t copies counts left ∙ told-false {test = room-asked at-shape} (c .before .room .ensures) (c .if2 .taken))
+    let a = at-shape .before .before .before .before .before .before .args in
+    room-refused (disksIn (a .rack .now)) (a .list .now) t (accepted-rack at-shape)
+    (sym (at-shape .judge-shape .ensures) ∙ passes (at-shape .judge-shape .result) (at-match .match2 .keys1))
+    (room-by (disksIn (a .rack .now)) (recordCount (a .list .now)) t copies counts left ∙ told-false {test = room-asked at-shape} (c .before .room .ensures) (c .if1 .taken))
 
 returns-4 : tie.Need-returns-4
 returns-4 c = λ t copies counts left.
     let at-room = c .before .before in
     let at-shape = at-room .before .before .before in
-    let a = at-shape .before .before .before .before .args in
+    let a = at-shape .before .before .before .before .before .before .args in
     c .judge-list .ensures
-    ∙ list-decides (disksOf (a .rack)) (a .list .now) t (accepted-rack at-shape)
-    (room-by (disksOf (a .rack)) (recordCount (a .list .now)) t copies counts left ∙ told-true {test = room-asked at-shape} (at-room .room .ensures) (c .before .if2 .left))
+    ∙ list-decides (disksIn (a .rack .now)) (a .list .now) t (accepted-rack at-shape)
+    (room-by (disksIn (a .rack .now)) (recordCount (a .list .now)) t copies counts left ∙ told-true {test = room-asked at-shape} (at-room .room .ensures) (c .before .if1 .left))
 
 pub judge-spec : {M : Type 1} → statement M
 judge-spec =
     tie.close
     (tie.spec
     (λ c κs. search needs)
+    (λ c. search needs)
+    (λ c. search needs)
     returns
     (λ c κs. search needs)
     (λ c. search needs)

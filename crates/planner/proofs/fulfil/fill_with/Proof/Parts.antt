@@ -6,9 +6,11 @@ use mathlib.Core.List.{List, map}
 use Prim.Native.Nat.{ℕ, _+_, _-_, _≤_}
 use lib.ListN.{length, take, drop, length-take, length-drop}
 use Rattle.placement.specs.Items.{Item, listOf}
-use Rattle.placement.specs.Rack.{disksOf, mostRecords}
+use Rattle.placement.specs.Rack.{mostRecords}
+use Rattle.placement.specs.Packed.{disksIn}
 use Rattle.placement.specs.Records.{recordCount}
-use Rattle.placement.specs.Method.{placement, remaining}
+use Rattle.placement.specs.Method.{remaining}
+use Rattle.placement.specs.FillingOrder.{filling, placed}
 use Rattle.placement.specs.Shelf.{shelfFilms}
 use Rattle.placement.specs.Tables.{Tables, tables, written, places}
 use Rattle.placement.specs.Planning.{Call, call, recordsIn, placedIn, leftIn}
@@ -21,10 +23,10 @@ use Rattle.planner.proofs.fulfil.fill_with.Tie as tie
 
 -- The start, the call and the tables at entry, as they are seen once the list is built.
 abbrev pub start : tie.After-build → tie.Start
-start c = c .before .before .before .before .before .before .before
+start c = c .before .before .before .before .before .before .before .before
 
 abbrev pub called : tie.After-build → Call
-called c = call (disksOf (start c .args .rack)) (start c .args .list .now)
+called c = call (disksIn (start c .args .rack .now)) (start c .args .list .now)
 
 abbrev pub entry : tie.After-build → Tables
 entry c =
@@ -64,14 +66,14 @@ pub copies-filled :
 copies-filled c =
     let rack = called (built c) .rack in
     c .fill-all .ensures .0
-    ∙ ap (λ (list : List Item). written (places rack (placement rack list)) (entry (built c) .copies)) (list-is (built c))
+    ∙ ap (λ (list : List Item). written (places rack (placed rack list)) (entry (built c) .copies)) (list-is (built c))
 
 pub counts-filled :
     (c : tie.After-fill-all) → c .fill-all .last .1 .0 ≡ written (map length (placedIn (called (built c)))) (entry (built c) .counts)
 counts-filled c =
     let rack = called (built c) .rack in
     c .fill-all .ensures .1 .0
-    ∙ ap (λ (list : List Item). written (map length (placement rack list)) (entry (built c) .counts)) (list-is (built c))
+    ∙ ap (λ (list : List Item). written (map length (placed rack list)) (entry (built c) .counts)) (list-is (built c))
 
 -- The part of the keys behind the films, which came back, and all keys then.
 abbrev pub part : tie.After-fill-all → List ℕ
@@ -127,7 +129,7 @@ left-run c =
     run-left (listed at-build) (part at-fill) (films at-build) (films-room at-fill) (c .shelve-all .result) (at-fill .fill-all .result .left) (shelved .0)
     (left-room at-fill)
     ∙ left-is (called at-build) (start at-build .pre .0 .formed) (entry at-build) (copies-filled at-fill) (counts-filled at-fill) (films-are at-fill)
-    (shelved .1) (at-fill .fill-all .ensures .1 .1 .0 .0 ∙ ap (remaining rack) (list-is at-build))
+    (shelved .1) (at-fill .fill-all .ensures .1 .1 .0 .0 ∙ ap (remaining (filling rack)) (list-is at-build))
 
 -- The run is among the keys, and no longer than the list.
 pub run-room : (c : tie.After-shelve-all) → rest c ≤ length (run c)
