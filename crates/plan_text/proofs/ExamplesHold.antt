@@ -4,15 +4,16 @@ use mathlib.Core.Bool.{true}
 use Prim.Native.Nat.{ℕ}
 use mathlib.Core.List.{List, map}
 use Rattle.refusal.specs.Verdict.{Numbers}
+use Rattle.placement.specs.Rack.{Disk}
 use Rattle.placement.specs.Tables.{Tables}
 use Rattle.placement.specs.Plan.{wellFormed}
 use Rattle.plan_text.specs.Decimal.{decimal}
 use Rattle.plan_text.specs.Text.{textOf}
 use Rattle.plan_text.specs.Reading.{planRead}
-use Rattle.plan_text.specs.ReadCall.{Told, judging, reading, tablesAfterReading}
+use Rattle.plan_text.specs.ReadCall.{Told, judging, reading, rackAfterReading, tablesAfterReading}
 use Rattle.plan_text.specs.WriteCall.{writing, spaceAfter}
 use Rattle.plan_text.specs.CallExamples.{Writing, writings, Taking, takings}
-use Rattle.plan_text.specs.Examples.{Example, accepted, refusedAtLine1, refusedAtLine2, refusedByLength, refusedLater, caseAText, caseAPlan}
+use Rattle.plan_text.specs.Examples.{Example, accepted, refusedAtLine1, refusedMixed, refusedAtLine2, refusedByLength, refusedLater, caseAText, caseAPlan, mixedText, mixedPlan}
 
 -- What the definitions give for an example, and what it expects.
 abbrev judgement : Example → Numbers Told
@@ -26,6 +27,11 @@ pub caseA-text : (textOf caseAPlan ≡ caseAText) × (wellFormed caseAPlan ≡ t
 unfolding textOf decimal
 caseA-text = (refl, refl)
 
+-- So is the text of unequal disks.
+pub mixed-text : (textOf mixedPlan ≡ mixedText) × (wellFormed mixedPlan ≡ true)
+unfolding textOf decimal
+mixed-text = (refl, refl)
+
 -- Every example's judgement is the one expected.
 pub accepted-hold : map judgement accepted ≡ map expected accepted
 unfolding judging planRead decimal
@@ -35,6 +41,11 @@ accepted-hold = refl
 pub refusedAtLine1-hold : map judgement refusedAtLine1 ≡ map expected refusedAtLine1
 unfolding judging planRead decimal
 refusedAtLine1-hold = refl
+
+-- Those with a mixed line that are.
+pub refusedMixed-hold : map judgement refusedMixed ≡ map expected refusedMixed
+unfolding judging planRead decimal
+refusedMixed-hold = refl
 
 -- Those that are refused at line 2.
 pub refusedAtLine2-hold : map judgement refusedAtLine2 ≡ map expected refusedAtLine2
@@ -60,11 +71,12 @@ pub writings-hold : map written writings ≡ map (λ (w : Writing). (w .numbers,
 unfolding writing spaceAfter textOf decimal
 writings-hold = refl
 
--- What they give for a call of reading: the answer and the tables afterwards.
-abbrev taken : Taking → Numbers Told × Tables
-taken r = (reading (r .text) (r .lent), tablesAfterReading (r .text) (r .lent))
+-- What they give for a call of reading: the answer, and the entries and tables afterwards.
+abbrev taken : Taking → Numbers Told × List Disk × Tables
+taken r =
+    (reading (r .text) (r .entries) (r .lent), rackAfterReading (r .text) (r .entries) (r .lent), tablesAfterReading (r .text) (r .entries) (r .lent))
 
 -- Every call of reading gives what is expected.
-pub takings-hold : map taken takings ≡ map (λ (r : Taking). (r .numbers, r .after)) takings
-unfolding reading tablesAfterReading planRead decimal
+pub takings-hold : map taken takings ≡ map (λ (r : Taking). (r .numbers, r .rack, r .after)) takings
+unfolding reading rackAfterReading tablesAfterReading planRead decimal
 takings-hold = refl

@@ -1,15 +1,16 @@
 -- How long decimal numbers and lines with pairs are.
 use mathlib.Core.Path.{_≡_, ap, _∙_}
-use mathlib.Core.List.{List, [], _∷_, _++_}
+use mathlib.Core.List.{List, [], _∷_, _++_, map}
 use Prim.Native.Nat.{ℕ, suc, _+_, _*_, _/_, _%_, _≤_, _<_}
 use native.Mathlib.Omega.{arith}
 use lib.ListN.{length, length-append}
 use Rattle.placement.specs.Items.{Item, total}
-use Rattle.placement.specs.Rack.{mostDemand}
+use Rattle.placement.specs.Rack.{Disk, mostDemand}
 use Rattle.placement.specs.WellFormed.{Each, Entry}
 use Rattle.placement.proofs.Tests.{by-order}
+use Rattle.placement.proofs.DiskRanges.{DiskInRange}
 use Rattle.plan_text.specs.Decimal.{digit, decimal}
-use Rattle.plan_text.specs.Text.{space, closed, pairText, pairsText}
+use Rattle.plan_text.specs.Text.{space, closed, pairText, pairsText, diskItem}
 use Rattle.plan_text.proofs.Decimals.{decimal-small, decimal-large}
 
 -- A number below 10 has one digit.
@@ -66,6 +67,19 @@ length-pair x =
       arith,
       length-append (decimal (x .film)) (space ∷ (decimal (x .amount) ++ (closed ∷ []))),
       length-append (decimal (x .amount)) (closed ∷ []),
+    )
+
+-- The pairs of n disks.
+pub length-mixed : (rack : List Disk) → Each DiskInRange rack → length (pairsText (map diskItem rack)) ≤ 1 + 11 * length rack
+length-mixed [] each = omega arith
+length-mixed (d ∷ ds) each =
+    omega (
+      arith,
+      length-append (pairText (diskItem d)) (pairsText (map diskItem ds)),
+      length-pair (diskItem d),
+      length-2 (d .slots) (omega (arith, each .0 .slots)),
+      length-5 (d .load) (omega (arith, each .0 .load)),
+      length-mixed ds (each .1),
     )
 
 -- The pairs of c copies with v viewers in sum.

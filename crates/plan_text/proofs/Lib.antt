@@ -9,11 +9,14 @@ pub mod LineThen
 pub mod OneLine
 pub mod Bodies
 pub mod Limits
+pub mod FirstLine
 pub mod LastLines
 pub mod Tails
 pub mod PlanGrammar
 pub mod Laws
 pub mod Lengths
+pub mod FirstLength
+pub mod ShorterDisks
 pub mod LongestText
 pub mod LongestHolds
 pub mod ReadTables

@@ -1,17 +1,20 @@
 -- What passes the tests of a line has numbers of at most 1,000,000.
 use mathlib.Core.Path.{_≡_}
-use mathlib.Core.Bool.{true}
-use mathlib.Core.List.{List, [], _∷_}
+use mathlib.Core.Bool.{true, not}
+use mathlib.Core.List.{List, [], _∷_, map}
 use Prim.Native.Nat.{ℕ, _≤_}
 use native.Mathlib.Omega.{arith}
+use lib.ListN.{length-map}
 use Rattle.placement.specs.Items.{Item}
-use Rattle.placement.specs.Rack.{Disk, inRange, mostDisks, mostSlots, mostLoad, mostDemand}
+use Rattle.placement.specs.Rack.{Disk, inRange, mostDisks, mostSlots, mostLoad, mostDemand, rackAccepted, allEqual}
 use Rattle.placement.specs.Plan.{diskAccepted, leftAccepted, mostLeft}
 use Rattle.placement.specs.WellFormed.{Each, Entry}
 use Rattle.placement.proofs.Conjunctions.{both-true}
 use Rattle.placement.proofs.Tests.{inRange-bounds}
+use Rattle.placement.proofs.Racks.{accepted-disks}
+use Rattle.placement.proofs.DiskRanges.{DiskInRange, accepted-range}
 use Rattle.placement.proofs.Formed.{disk-count, disk-entries, left-count, left-entries}
-use Rattle.plan_text.specs.Reading.{Sizes, sizesAccepted}
+use Rattle.plan_text.specs.Reading.{Sizes, sizesAccepted, itemDisk, mixedAccepted}
 use Rattle.plan_text.proofs.Numbers.{most}
 use Rattle.plan_text.proofs.Pairs.{SmallItems}
 use Rattle.plan_text.proofs.Bodies.{FewItems}
@@ -29,6 +32,22 @@ module _ (z : Sizes) (e : sizesAccepted z ≡ true) where
 
   pub sizes-streams : z .streams ≤ mostLoad
   sizes-streams = inRange-bounds mostLoad (z .streams) (behind .1) .1
+
+-- The pairs of disks in range have small numbers.
+disks-small : (xs : List Item) → Each DiskInRange (map itemDisk xs) → SmallItems xs
+disks-small [] each = tt
+disks-small (x ∷ xs) each =
+    let slots : x .film ≤ most = omega (arith, each .0 .slots) in
+    let load : x .amount ≤ most = omega (arith, each .0 .load) in
+    ((slots, load), disks-small xs (each .1))
+
+-- Accepted pairs of a mixed line are at most 64, with small numbers.
+pub mixed-few : (xs : List Item) → mixedAccepted xs ≡ true → FewItems mostDisks xs
+mixed-few xs e =
+    let rack = both-true (rackAccepted (map itemDisk xs)) (not (allEqual (map itemDisk xs))) e .0 in (
+      omega (arith, length-map xs itemDisk, accepted-disks (map itemDisk xs) rack .1),
+      disks-small xs (accepted-range (map itemDisk xs) rack),
+    )
 
 -- Entries have small numbers.
 entries-small : (limit : ℕ) → limit ≤ most → (xs : List Item) → Each (Entry limit) xs → SmallItems xs

@@ -8,7 +8,7 @@ use borrow.Author.Tests.{ne-eqb}
 use Rattle.placement.specs.Items.{Item}
 use Rattle.placement.proofs.Tests.{by-order}
 use Rattle.plan_text.specs.Decimal.{digit, decimal}
-use Rattle.plan_text.specs.Text.{space, closed, lineFeed, pairText, pairsText, rackLine, diskHead, leftHead, servedLine}
+use Rattle.plan_text.specs.Text.{space, closed, lineFeed, pairText, pairsText, rackLine, mixedHead, diskHead, leftHead, servedLine}
 use Rattle.plan_text.proofs.Decimals.{decimal-small, decimal-large}
 use Rattle.plan_text.proofs.Upto.{oneLine, oneLine-append}
 
@@ -41,12 +41,15 @@ pairs-oneLine : (xs : List Item) → oneLine (pairsText xs) ≡ true
 pairs-oneLine [] = refl
 pairs-oneLine (x ∷ xs) = oneLine-append (pairText x) (pairsText xs) (pair-oneLine x) (pairs-oneLine xs)
 
--- None of the four kinds of lines has a line feed inside.
+-- None of the five kinds of lines has a line feed inside.
 pub rack-oneLine : (n k l : ℕ) → oneLine (rackLine n k l) ≡ true
 rack-oneLine n k l =
     oneLine-append (decimal n) (space ∷ (decimal k ++ (space ∷ (decimal l ++ (closed ∷ []))))) (decimal-oneLine n)
     (oneLine-append (decimal k) (space ∷ (decimal l ++ (closed ∷ []))) (decimal-oneLine k)
     (oneLine-append (decimal l) (closed ∷ []) (decimal-oneLine l) refl))
+
+pub mixed-oneLine : (xs : List Item) → oneLine (mixedHead ++ pairsText xs) ≡ true
+mixed-oneLine xs = pairs-oneLine xs
 
 pub disk-oneLine : (number : ℕ) (xs : List Item) → oneLine (diskHead number ++ pairsText xs) ≡ true
 disk-oneLine number xs = oneLine-append (diskHead number) (pairsText xs) (decimal-oneLine number) (pairs-oneLine xs)

@@ -5,7 +5,7 @@ use mathlib.Core.List.{List, [], _∷_, _++_}
 use Prim.Native.Nat.{ℕ}
 use borrow.Author.Tests.{eqb-true, eq-eqb}
 use lib.Dec.{eqb}
-use Rattle.plan_text.specs.Parse.{Parse, parsed, unparsed, next, byte, literal}
+use Rattle.plan_text.specs.Parse.{Parse, parsed, unparsed, next, orElse, byte, literal}
 use Rattle.placement.proofs.Conjunctions.{cond-true}
 
 -- Nothing was read.
@@ -38,6 +38,12 @@ pub next-parsed : {A B P : Type 0} {b : B} {r : List ℕ} (p : Parse A) (f : A �
     → next p f ≡ parsed b r → ((a : A) (t : List ℕ) → p ≡ parsed a t → f a t ≡ parsed b r → P) → P
 next-parsed (parsed a t) f e goal = goal a t refl e
 next-parsed unparsed f e goal = unparsed-parsed e
+
+-- One of two pieces was read.
+pub orElse-parsed : {A P : Type 0} {a : A} {r : List ℕ} (p q : Parse A) → orElse p q ≡ parsed a r
+    → (p ≡ parsed a r → P) → (q ≡ parsed a r → P) → P
+orElse-parsed (parsed a t) q e first second = first e
+orElse-parsed unparsed q e first second = second e
 
 -- A choice was read where the test held.
 pub chosen-parsed : {A P : Type 0} {a : A} {r : List ℕ} (b : Bool) (p : Parse A)

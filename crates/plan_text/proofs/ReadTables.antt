@@ -1,11 +1,12 @@
--- Tables after reading hold the plan that was read, and hold it well formed.
+-- The list of entries after reading begins with the rack that was read; the tables hold the plan, and hold it well formed.
 use mathlib.Core.Path.{_≡_, refl, ap, ap₂, _∙_}
 use mathlib.Core.Bool.{true}
 use mathlib.Core.List.{List, [], _∷_, _++_, map, append-assoc}
 use Prim.Native.Nat.{ℕ, zero, suc, _-_}
 use borrow.Author.Tests.{le-leb}
 use lib.Dec.{leb}
-use lib.ListN.{length, replicate, length-map}
+use lib.ListN.{length, take, drop, replicate, length-map}
+use lib.Seq.{take-at}
 use Rattle.placement.specs.Items.{Item}
 use Rattle.placement.specs.Rack.{Disk, mostDemand}
 use Rattle.placement.specs.Tables.{Tables, tables, entryOf, padded, places}
@@ -16,7 +17,7 @@ use Rattle.placement.proofs.Formed.{disk-count, left-entries, plan-disks, plan-
 use Rattle.placement.proofs.Written.{padded-zeros}
 use Rattle.placement.proofs.ReadBack.{written-back, places-behind, copies-read-back}
 use Rattle.plan_text.specs.Held.{allZero, unusedPlaces, unusedZero, unusedZeroFrom, heldWellFormed}
-use Rattle.plan_text.specs.ReadCall.{holdingPlan}
+use Rattle.plan_text.specs.ReadCall.{holdingRack, holdingPlan}
 
 -- A list of zeros passes the test of zeros.
 zeros-zero : (n : ℕ) → allZero (replicate n 0) ≡ true
@@ -67,6 +68,10 @@ module _ (p : Plan) (e : wellFormed p ≡ true) (copies counts left : List ℕ) 
   plan-unused =
       and-holds (unusedZeroFrom (p .rack) (places (p .rack) (p .copies) ++ copies) (map length (p .copies) ++ counts)) _
       (unused-zero (p .rack) (p .copies) copies counts (plan-disks p e)) (ap wellFormed plan-held ∙ e)
+
+-- The first entries of the list after reading are the rack.
+pub holding-rack : (p : Plan) (lent : List Disk) → take (length (p .rack)) (holdingRack p lent) ≡ p .rack
+holding-rack p lent = take-at (p .rack) (drop (length (p .rack)) lent) (length (p .rack)) refl
 
 module _ (p : Plan) (t : Tables) (e : wellFormed p ≡ true) where
   -- The left films are read back.

@@ -6,20 +6,21 @@ use Prim.Native.Nat.{ℕ, _≤_}
 use native.Mathlib.Omega.{arith}
 use borrow.Author.Tests.{le-leb}
 use lib.Dec.{leb}
-use lib.ListN.{length, drop, length-append, length-map}
+use lib.ListN.{length, take, drop, length-append, length-map}
 use Rattle.refusal.specs.Verdict.{given, unless}
 use Rattle.refusal.proofs.Verdicts.{unless-passes}
-use Rattle.placement.specs.Rack.{allSlots, rackAccepted}
+use Rattle.placement.specs.Rack.{Disk, allSlots}
 use Rattle.placement.specs.Tables.{Tables, entryOf, places, written}
 use Rattle.placement.specs.Plan.{Plan, wellFormed}
 use Rattle.placement.proofs.Conjunctions.{both-true, and-holds}
+use Rattle.placement.proofs.Chains.{rack-passes}
 use Rattle.placement.proofs.Formed.{plan-rack, plan-disks, plan-lists}
 use Rattle.placement.proofs.ReadBack.{places-length}
 use Rattle.plan_text.specs.Text.{textOf}
 use Rattle.plan_text.specs.Held.{unusedZeroFrom}
-use Rattle.plan_text.specs.ReadCall.{textVerdict, holdingPlan}
+use Rattle.plan_text.specs.ReadCall.{textVerdict, holdingRack, holdingPlan}
 use Rattle.plan_text.specs.WriteCall.{WriteCall, writeCall, roomStated, planOf, wellFormedCall, writeVerdict, writing, spaceAfter, writeAnswer, spaceGiven}
-use Rattle.plan_text.proofs.ReadTables.{holding-held, holding-wellFormed}
+use Rattle.plan_text.proofs.ReadTables.{holding-rack, holding-held, holding-wellFormed}
 use Rattle.plan_text.proofs.Verdicts.{verdict-text, verdict-wellFormed, verdict-same}
 
 -- The text of tables that hold a well-formed plan is read as the plan that they hold.
@@ -32,12 +33,19 @@ written-read c e =
 length-written : (new old : List ℕ) → length new ≤ length (written new old)
 length-written new old = omega (arith, length-append new (drop (length new) old))
 
--- The call that writes what reading has left in the tables.
-abbrev pub callAfter : Plan → Tables → WriteCall
-callAfter p t = writeCall (p .rack) (holdingPlan p t) (length (p .left))
+-- The call that writes what reading has left in the list of entries and in the tables.
+abbrev pub callAfter : Plan → List Disk → Tables → WriteCall
+callAfter p lent t = writeCall (take (length (p .rack)) (holdingRack p lent)) (holdingPlan p t) (length (p .left))
+
+-- The call with the rack itself.
+abbrev callOf : Plan → Tables → WriteCall
+callOf p t = writeCall (p .rack) (holdingPlan p t) (length (p .left))
+
+call-same : (p : Plan) (lent : List Disk) (t : Tables) → callAfter p lent t ≡ callOf p t
+call-same p lent t = ap (λ (rack : List Disk). writeCall rack (holdingPlan p t) (length (p .left))) (holding-rack p lent)
 
 -- The tables have room for what they hold.
-room-after : (p : Plan) (t : Tables) → wellFormed p ≡ true → roomStated (callAfter p t) ≡ true
+room-after : (p : Plan) (t : Tables) → wellFormed p ≡ true → roomStated (callOf p t) ≡ true
 room-after p t e =
     let after = holdingPlan p t in
     and-holds (leb (allSlots (p .rack)) (length (after .copies))) _
@@ -56,29 +64,33 @@ room-after p t e =
     (le-leb (length (p .left)) (length (after .left))
     (omega (arith, length-written (map entryOf (p .left)) (t .left), length-map (p .left) entryOf))))
 
-module _ (text : List ℕ) (p : Plan) (t : Tables) (room : List ℕ) (read : textVerdict text ≡ given p) (fits : length text ≤ length room) where
+module _ (text : List ℕ) (p : Plan) (lent : List Disk) (t : Tables) (room : List ℕ) (read : textVerdict text ≡ given p)
+    (fits : length text ≤ length room) where
   formed : wellFormed p ≡ true
   formed = verdict-wellFormed text p read
 
   -- The text of the tables after reading is the text that was read.
-  same : textOf (planOf (callAfter p t)) ≡ text
+  same : textOf (planOf (callOf p t)) ≡ text
   same = ap textOf (holding-held p t formed) ∙ verdict-same text p read
 
   -- No refusal of writing applies to them.
-  verdict : writeVerdict (callAfter p t) room ≡ given (length text)
+  verdict : writeVerdict (callOf p t) room ≡ given (length text)
   verdict =
-      unless-passes (rackAccepted (p .rack)) 1 0 _ (plan-rack p formed)
-      ∙ unless-passes (roomStated (callAfter p t)) 7 0 _ (room-after p t formed)
-      ∙ unless-passes (wellFormedCall (callAfter p t)) 10 0 _ (holding-wellFormed p t formed)
+      rack-passes (p .rack) _ (plan-rack p formed)
+      ∙ unless-passes (roomStated (callOf p t)) 7 0 _ (room-after p t formed)
+      ∙ unless-passes (wellFormedCall (callOf p t)) 10 0 _ (holding-wellFormed p t formed)
       ∙ ap (λ (s : List ℕ). unless (leb (length s) (length room)) 11 0 (given (length s))) same
       ∙ unless-passes (leb (length text) (length room)) 11 0 (given (length text)) (le-leb (length text) (length room) fits)
 
   -- Writing what was read answers the text's length.
-  pub read-written : writing (callAfter p t) room ≡ record { refusal = 0; second = 0; values = length text }
+  pub read-written : writing (callAfter p lent t) room ≡ record { refusal = 0; second = 0; values = length text }
   unfolding writing
-  read-written = ap writeAnswer verdict
+  read-written = ap (λ (c : WriteCall). writeAnswer (writeVerdict c room)) (call-same p lent t) ∙ ap writeAnswer verdict
 
   -- It writes the text that was read.
-  pub read-space : spaceAfter (callAfter p t) room ≡ written text room
+  pub read-space : spaceAfter (callAfter p lent t) room ≡ written text room
   unfolding spaceAfter
-  read-space = ap (spaceGiven (callAfter p t) room) verdict ∙ ap (λ (s : List ℕ). written s room) same
+  read-space =
+      ap (λ (c : WriteCall). spaceGiven c room (writeVerdict c room)) (call-same p lent t)
+      ∙ ap (spaceGiven (callOf p t) room) verdict
+      ∙ ap (λ (s : List ℕ). written s room) same

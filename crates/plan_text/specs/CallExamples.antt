@@ -1,14 +1,14 @@
--- Calls of writing and reading with tables, as two tables of cases: what is asked, and what the answer, tables and space then are.
+-- Calls of writing and reading with tables, as two tables of cases: what is asked, and what the answer, entries, tables and space then are.
 use Prim.Native.Nat.{ℕ}
 use mathlib.Core.List.{List, [], _∷_}
 use lib.ListN.{replicate}
 use Rattle.refusal.specs.Verdict.{Numbers}
 use Rattle.placement.specs.Items.{item}
-use Rattle.placement.specs.Rack.{rackOf}
+use Rattle.placement.specs.Rack.{Disk, disk, rackOf}
 use Rattle.placement.specs.Tables.{Tables, tables, entryOf}
-use Rattle.plan_text.specs.ReadCall.{Told, told}
+use Rattle.plan_text.specs.ReadCall.{Told, told, toldNothing}
 use Rattle.plan_text.specs.WriteCall.{WriteCall, writeCall}
-use Rattle.plan_text.specs.Examples.{textLines}
+use Rattle.plan_text.specs.Examples.{textLines, mixedText}
 
 -- The entry of a film with its viewers or amount.
 abbrev entry : ℕ → ℕ → ℕ
@@ -42,17 +42,28 @@ writes n c text = record {
 }
 
 -- Refuses, and leaves the n bytes lent.
-abbrev declines : ℕ → ℕ → WriteCall → Writing
-declines number n c = record {
+abbrev refuses : ℕ → ℕ → ℕ → WriteCall → Writing
+refuses number second n c = record {
   asked = c;
   room = replicate n 1;
-  numbers = record { refusal = number; second = 0; values = 0 };
+  numbers = record { refusal = number; second = second; values = 0 };
   after = replicate n 1;
 }
+
+abbrev declines : ℕ → ℕ → WriteCall → Writing
+declines number n c = refuses number 0 n c
 
 -- One copy, and one film left.
 abbrev good : WriteCall
 good = asking (entry 7 4 ∷ 0 ∷ 77 ∷ []) (1 ∷ 77 ∷ []) 1
+
+-- Two unequal disks, with the copies of `mixedText`.
+abbrev mixedTables : Tables
+mixedTables =
+    tables (entry 8 3 ∷ entry 2 1 ∷ entry 8 5 ∷ entry 1 0 ∷ entry 3 0 ∷ 0 ∷ 77 ∷ []) (2 ∷ 3 ∷ 77 ∷ []) (entry 9 3 ∷ 77 ∷ [])
+
+abbrev mixedRack : List Disk
+mixedRack = disk 2 4 ∷ disk 4 8 ∷ []
 
 -- Calls of writing.
 abbrev pub writings : List Writing
@@ -70,31 +81,57 @@ writings =
     ∷ declines 7 9 (asking (entry 7 4 ∷ 0 ∷ 77 ∷ []) (1 ∷ 77 ∷ []) 3)
     ∷ declines 7 9 (asking (entry 7 4 ∷ []) (1 ∷ 77 ∷ []) 1)
     ∷ declines 7 9 (asking (entry 7 4 ∷ 0 ∷ 77 ∷ []) [] 1)
-    ∷ declines 1 9 (writeCall (rackOf 1 33 5) (tables [] [] []) 0)
+    ∷ writes 94 (writeCall mixedRack mixedTables 1) mixedText
+    ∷ declines 10 9 (writeCall (disk 4 8 ∷ disk 2 4 ∷ []) mixedTables 1)
+    ∷ declines 12 9 (writeCall (rackOf 1 33 5) (tables [] [] []) 0)
+    ∷ declines 12 9 (writeCall [] (tables [] [] []) 0)
+    ∷ declines 12 9 (writeCall (disk 2 4 ∷ disk 4 9 ∷ disk 33 66 ∷ []) (tables [] [] []) 0)
+    ∷ refuses 13 2 9 (writeCall (disk 2 4 ∷ disk 4 9 ∷ disk 3 7 ∷ []) (tables [] [] []) 0)
     ∷ []
 
 pub record Taking : Type 0 where
   pub text : List ℕ
-  -- Tables that hold 77 everywhere.
+  -- A list of entries and tables that hold 77 everywhere.
+  pub entries : List Disk
   pub lent : Tables
   pub numbers : Numbers Told
+  pub rack : List Disk
   pub after : Tables
 
--- Reads a text of one disk of two slots and load 5, which serves 4 and leaves one film, into tables.
+-- So many entries of 77 slots and load 77.
+abbrev others : ℕ → List Disk
+others n = replicate n (disk 77 77)
+
+-- Reads a text of one disk of two slots and load 5, which serves 4 and leaves one film, into three entries and tables.
 abbrev takes : List ℕ → ℕ → Tables → Tables → Taking
 takes text unserved lent after = record {
   text = text;
+  entries = others 3;
   lent = lent;
-  numbers = record { refusal = 0; second = 0; values = told 1 2 5 4 unserved 1 };
+  numbers = record { refusal = 0; second = 0; values = told 1 4 unserved 1 };
+  rack = disk 2 5 ∷ others 2;
   after = after;
 }
 
--- Refuses, and leaves the tables.
-abbrev leaves : ℕ → ℕ → List ℕ → Tables → Taking
-leaves number second text lent = record {
-  text = text;
+-- Reads `mixedText` into n entries and tables.
+abbrev takesMixed : ℕ → List Disk → Tables → Tables → Taking
+takesMixed n rack lent after = record {
+  text = mixedText;
+  entries = others n;
   lent = lent;
-  numbers = record { refusal = number; second = second; values = told 0 0 0 0 0 0 };
+  numbers = record { refusal = 0; second = 0; values = told 2 9 3 1 };
+  rack = rack;
+  after = after;
+}
+
+-- Refuses, and leaves the n entries and the tables.
+abbrev leaves : ℕ → ℕ → List ℕ → ℕ → Tables → Taking
+leaves number second text n lent = record {
+  text = text;
+  entries = others n;
+  lent = lent;
+  numbers = record { refusal = number; second = second; values = toldNothing };
+  rack = others n;
   after = lent;
 }
 
@@ -107,8 +144,13 @@ abbrev pub takings : List Taking
 takings =
     takes smallText 9 (sevens 3 2 3) (tables (entry 7 4 ∷ 0 ∷ 77 ∷ []) (1 ∷ 77 ∷ []) (entry 3 9 ∷ 77 ∷ 77 ∷ []))
     ∷ takes shelfText 0 (sevens 3 2 3) (tables (entry 7 4 ∷ entry 8 0 ∷ 77 ∷ []) (2 ∷ 77 ∷ []) (entry 3 0 ∷ 77 ∷ 77 ∷ []))
-    ∷ leaves 7 0 smallText (sevens 1 2 3)
-    ∷ leaves 7 0 smallText (sevens 3 0 3)
-    ∷ leaves 7 0 smallText (sevens 3 2 0)
-    ∷ leaves 9 4 (textLines ("(rack 1 2 5)" ∷ "(disk 1 (7 4))" ∷ "(left (3 9))" ∷ "(served 5 9)" ∷ [])) (sevens 0 0 0)
+    ∷ takesMixed 2 mixedRack (sevens 7 3 2) mixedTables
+    ∷ takesMixed 4 (disk 2 4 ∷ disk 4 8 ∷ others 2) (sevens 7 3 2) mixedTables
+    ∷ leaves 7 0 smallText 1 (sevens 1 2 3)
+    ∷ leaves 7 0 smallText 1 (sevens 3 0 3)
+    ∷ leaves 7 0 smallText 1 (sevens 3 2 0)
+    ∷ leaves 7 0 smallText 0 (sevens 3 2 3)
+    ∷ leaves 7 0 mixedText 1 (sevens 7 3 2)
+    ∷ leaves 7 0 mixedText 2 (sevens 5 3 2)
+    ∷ leaves 9 4 (textLines ("(rack 1 2 5)" ∷ "(disk 1 (7 4))" ∷ "(left (3 9))" ∷ "(served 5 9)" ∷ [])) 0 (sevens 0 0 0)
     ∷ []

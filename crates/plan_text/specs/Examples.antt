@@ -1,37 +1,42 @@
--- Texts and their judgement: accepted ones, case A of document 01 among them, and texts that are refused at line 1, line 2
+-- Texts and their judgement: accepted ones, case A of document 01 and one of unequal disks among them, and texts that are refused at line 1, line 2
 -- and later, the empty text among them.
-use Prim.Native.Nat.{ℕ}
+use Prim.Native.Nat.{ℕ, zero, suc}
 use Prim.Native.String.{String}
-use mathlib.Core.List.{List, [], _∷_, map}
+use mathlib.Core.List.{List, [], _∷_, _++_, map}
 use lib.ListN.{replicate}
 use Rattle.refusal.specs.Verdict.{Numbers}
 use Rattle.placement.specs.Items.{item}
-use Rattle.placement.specs.Rack.{rackOf}
+use Rattle.placement.specs.Rack.{disk, rackOf}
 use Rattle.placement.specs.Plan.{Plan}
 use Rattle.plan_text.specs.Ascii.{ascii}
 use Rattle.plan_text.specs.Text.{lines}
-use Rattle.plan_text.specs.ReadCall.{Told, told}
+use Rattle.plan_text.specs.ReadCall.{Told, told, toldNothing}
 
 -- Lines, each ended by a line feed.
 abbrev pub textLines : List String → List ℕ
 textLines ls = lines (map ascii ls)
+
+-- Bytes n times, and what follows them.
+abbrev repeated : ℕ → List ℕ → List ℕ → List ℕ
+repeated zero bytes after = after
+repeated (suc n) bytes after = bytes ++ repeated n bytes after
 
 pub record Example : Type 0 where
   pub text : List ℕ
   pub numbers : Numbers Told
 
 -- A text that is read, with its numbers.
-abbrev plan : List ℕ → (disks slots streams served unserved left : ℕ) → Example
-plan text n k l s u left = record {
+abbrev plan : List ℕ → (disks served unserved left : ℕ) → Example
+plan text n s u left = record {
   text = text;
-  numbers = record { refusal = 0; second = 0; values = told n k l s u left };
+  numbers = record { refusal = 0; second = 0; values = told n s u left };
 }
 
 -- Refused 9 at a line.
 abbrev refusedAt : ℕ → List ℕ → Example
 refusedAt n text = record {
   text = text;
-  numbers = record { refusal = 9; second = n; values = told 0 0 0 0 0 0 };
+  numbers = record { refusal = 9; second = n; values = toldNothing };
 }
 
 -- Case A's text, whole.
@@ -62,14 +67,35 @@ caseAPlan = record {
 abbrev small : List String → List ℕ
 small ls = textLines ("(rack 1 2 5)" ∷ ls)
 
+-- A text of unequal disks, whole. Disk 2 has a slot that is free.
+abbrev pub mixedText : List ℕ
+mixedText =
+    textLines
+    ("(mixed (2 4) (4 8))"
+    ∷ "(disk 1 (8 3) (2 1))"
+    ∷ "(disk 2 (8 5) (1 0) (3 0))"
+    ∷ "(left (9 3))"
+    ∷ "(served 9 3)"
+    ∷ [])
+
+-- Its plan.
+abbrev pub mixedPlan : Plan
+mixedPlan = record {
+  rack = disk 2 4 ∷ disk 4 8 ∷ [];
+  copies = (item 8 3 ∷ item 2 1 ∷ []) ∷ (item 8 5 ∷ item 1 0 ∷ item 3 0 ∷ []) ∷ [];
+  left = item 9 3 ∷ [];
+}
+
 -- Texts that are read.
 abbrev pub accepted : List Example
 accepted =
-    plan caseAText 3 4 6 16 2 2
-    ∷ plan (textLines ("(rack 2 1 1)" ∷ "(disk 1 (7 1))" ∷ "(disk 2)" ∷ "(left)" ∷ "(served 1 0)" ∷ [])) 2 1 1 1 0 0
-    ∷ plan (small ("(disk 1 (2 3) (1 2))" ∷ "(left (1 1) (65535 1000000))" ∷ "(served 5 1000001)" ∷ [])) 1 2 5 5 1000001 2
-    ∷ plan (small ("(disk 1 (7 0) (8 5))" ∷ "(left (2 0) (3 1))" ∷ "(served 5 1)" ∷ [])) 1 2 5 5 1 2
-    ∷ plan (small ("(disk 1 (8 0))" ∷ "(left (2 0))" ∷ "(served 0 0)" ∷ [])) 1 2 5 0 0 1
+    plan caseAText 3 16 2 2
+    ∷ plan (textLines ("(rack 2 1 1)" ∷ "(disk 1 (7 1))" ∷ "(disk 2)" ∷ "(left)" ∷ "(served 1 0)" ∷ [])) 2 1 0 0
+    ∷ plan (small ("(disk 1 (2 3) (1 2))" ∷ "(left (1 1) (65535 1000000))" ∷ "(served 5 1000001)" ∷ [])) 1 5 1000001 2
+    ∷ plan (small ("(disk 1 (7 0) (8 5))" ∷ "(left (2 0) (3 1))" ∷ "(served 5 1)" ∷ [])) 1 5 1 2
+    ∷ plan (small ("(disk 1 (8 0))" ∷ "(left (2 0))" ∷ "(served 0 0)" ∷ [])) 1 0 0 1
+    ∷ plan mixedText 2 9 3 1
+    ∷ plan (textLines ("(mixed (32 65504) (1 2047) (31 63457))" ∷ "(disk 1)" ∷ "(disk 2 (7 2047))" ∷ "(disk 3)" ∷ "(left)" ∷ "(served 2047 0)" ∷ [])) 3 2047 0 0
     ∷ []
 
 -- Texts whose first line is refused.
@@ -86,6 +112,30 @@ refusedAtLine1 =
     ∷ textLines ("(rack  1 2 5)" ∷ [])
     ∷ textLines ("(rack 1 2 5) " ∷ [])
     ∷ textLines ("(Rack 1 2 5)" ∷ [])
+    ∷ [])
+
+-- So are these mixed lines: no pair, one pair, equal pairs, another ratio in the last pair, slots or load out of range, 65 pairs, a leading
+-- zero, a missing space, a space too many, and N, k and L.
+abbrev pub refusedMixed : List Example
+refusedMixed =
+    map (refusedAt 1)
+    (textLines ("(mixed)" ∷ [])
+    ∷ textLines ("(mixed (2 4))" ∷ [])
+    ∷ textLines ("(mixed (2 4) (2 4))" ∷ [])
+    ∷ textLines ("(mixed (2 4) (4 8) (3 5))" ∷ [])
+    ∷ textLines ("(mixed (2 4) (4 9))" ∷ [])
+    ∷ textLines ("(mixed (0 0) (4 8))" ∷ [])
+    ∷ textLines ("(mixed (11 4) (33 12))" ∷ [])
+    ∷ textLines ("(mixed (1 32768) (2 65536))" ∷ [])
+    ∷ textLines ("(mixed (1 0) (2 0))" ∷ [])
+    ∷ textLines ("(mixed (2 4) (4 4294967304))" ∷ [])
+    ∷ lines ((ascii "(mixed (2 4)" ++ repeated 64 (ascii " (4 8)") (ascii ")")) ∷ [])
+    ∷ textLines ("(mixed (2 4) (04 8))" ∷ [])
+    ∷ textLines ("(mixed (2 4)(4 8))" ∷ [])
+    ∷ textLines ("(mixed  (2 4) (4 8))" ∷ [])
+    ∷ textLines ("(mixed (2 4) (4 8)) " ∷ [])
+    ∷ textLines ("(mixed 2 4 8)" ∷ [])
+    ∷ ascii "(mixed (2 4) (4 8))"
     ∷ [])
 
 -- Texts whose second line is refused.
@@ -107,12 +157,15 @@ refusedAtLine2 =
     ∷ small ("(disk 1 (7 3) (8 3))" ∷ [])
     ∷ small ("(disk 1 (7 1) (8 1) (9 1))" ∷ [])
     ∷ small ("(disk 1 (7 1) )" ∷ [])
+    ∷ textLines ("(mixed (2 4) (4 8))" ∷ [])
+    ∷ textLines ("(mixed (2 4) (4 8))" ∷ "(disk 1 (1 1) (2 1) (3 1))" ∷ [])
+    ∷ textLines ("(mixed (2 4) (4 8))" ∷ "(disk 1 (1 5))" ∷ [])
     ∷ [])
 
 -- 65,537 bytes are refused 8, whatever they are; 65,536 are judged by lines.
 abbrev pub refusedByLength : List Example
 refusedByLength =
-    record { text = replicate 65537 0; numbers = record { refusal = 8; second = 0; values = told 0 0 0 0 0 0 } }
+    record { text = replicate 65537 0; numbers = record { refusal = 8; second = 0; values = toldNothing } }
     ∷ refusedAt 1 (replicate 65536 0)
     ∷ []
 
@@ -128,4 +181,6 @@ refusedLater =
     ∷ refusedAt 4 (small ("(disk 1 (7 5))" ∷ "(left)" ∷ "(served 05 0)" ∷ []))
     ∷ refusedAt 4 (small ("(disk 1 (7 5))" ∷ "(left)" ∷ []))
     ∷ refusedAt 5 (small ("(disk 1 (7 5))" ∷ "(left)" ∷ "(served 5 0)" ∷ "" ∷ []))
+    ∷ refusedAt 3 (textLines ("(mixed (4 8) (2 4))" ∷ "(disk 1 (1 1) (2 1) (3 1))" ∷ "(disk 2 (1 1) (2 1) (3 1))" ∷ []))
+    ∷ refusedAt 4 (textLines ("(mixed (2 4) (4 8))" ∷ "(disk 1)" ∷ "(disk 2)" ∷ "(disk 3)" ∷ []))
     ∷ []

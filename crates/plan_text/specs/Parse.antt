@@ -16,6 +16,11 @@ abbrev pub next : {A B : Type 0} → Parse A → (A → List ℕ → Parse B) �
 next (parsed a rest) more = more a rest
 next unparsed more = unparsed
 
+-- One piece, or another where it does not fit.
+abbrev pub orElse : {A : Type 0} → Parse A → Parse A → Parse A
+orElse (parsed a rest) other = parsed a rest
+orElse unparsed other = other
+
 -- One byte that is determined.
 abbrev pub byte : ℕ → List ℕ → Parse (Unit {0})
 byte expected [] = unparsed

@@ -1,13 +1,13 @@
 -- A plan's text read line by line. What is determined is compared: the disk's number, S and U.
-use Prim.Native.Nat.{ℕ, zero, suc, _+_}
-use mathlib.Core.Bool.{Bool, true, cond}
-use mathlib.Core.List.{List, [], _∷_}
+use Prim.Native.Nat.{ℕ, suc, _+_}
+use mathlib.Core.Bool.{Bool, true, cond, not, _&&_}
+use mathlib.Core.List.{List, [], _∷_, map}
 use Rattle.placement.specs.Items.{Item, total}
-use Rattle.placement.specs.Rack.{Disk, rackOf, sizesInRange}
+use Rattle.placement.specs.Rack.{Disk, disk, rackOf, sizesInRange, mostDisks, rackAccepted, allEqual}
 use Rattle.placement.specs.Plan.{Plan, diskAccepted, leftAccepted, mostLeft}
 use Rattle.plan_text.specs.Ascii.{ascii}
-use Rattle.plan_text.specs.Text.{space, closed, lineFeed, diskHead, leftHead, servedLine}
-use Rattle.plan_text.specs.Parse.{Parse, parsed, unparsed, next, byte, literal, number, pairs}
+use Rattle.plan_text.specs.Text.{space, closed, lineFeed, mixedHead, diskHead, leftHead, servedLine}
+use Rattle.plan_text.specs.Parse.{Parse, parsed, unparsed, next, orElse, byte, literal, number, pairs}
 
 -- What was read to the end of the text, or the number of lines before the refused one.
 pub data Reading (A : Type 0) : Type 0 where
@@ -29,7 +29,7 @@ abbrev pub lineThen : {A B C : Type 0} → (A → B → C) → Parse A → (A �
 lineThen join (parsed a after) rest = joined (join a) (rest a after)
 lineThen join unparsed rest = refusedAfter 0
 
--- The three numbers of a text's first line.
+-- The three numbers of `(rack N k L)`.
 pub record Sizes : Type 0 where
   pub disks : ℕ
   pub slots : ℕ
@@ -63,6 +63,26 @@ rackBody cap text =
 abbrev pub pairsBody : (ℕ → ℕ) → List ℕ → ℕ → List ℕ → Parse (List Item)
 pairsBody cap head most text = next (literal head text) (λ u t. pairs cap most t)
 
+-- The disk of a pair, slots then load.
+abbrev pub itemDisk : Item → Disk
+itemDisk x = disk (x .film) (x .amount)
+
+-- The pairs of a mixed line are those of a rack that is accepted and whose entries differ.
+abbrev pub mixedAccepted : List Item → Bool
+mixedAccepted xs = rackAccepted (map itemDisk xs) && not (allEqual (map itemDisk xs))
+
+-- The rack of a line `(rack N k L)`.
+abbrev pub equalRead : (ℕ → ℕ) → List ℕ → Parse (List Disk)
+equalRead cap text = next (line (rackBody cap) sizesAccepted text) (λ z t. parsed (rackIn z) t)
+
+-- The rack of a line `(mixed (k L) (k L))`.
+abbrev pub mixedRead : (ℕ → ℕ) → List ℕ → Parse (List Disk)
+mixedRead cap text = next (line (pairsBody cap mixedHead mostDisks) mixedAccepted text) (λ xs t. parsed (map itemDisk xs) t)
+
+-- The rack of the first line, in either form.
+abbrev pub rackRead : (ℕ → ℕ) → List ℕ → Parse (List Disk)
+rackRead cap text = orElse (equalRead cap text) (mixedRead cap text)
+
 -- "Bytes after the last line count as the next line."
 abbrev pub textEnd : List ℕ → Reading (Unit {0})
 textEnd [] = whole tt
@@ -90,13 +110,12 @@ readDisks cap (d ∷ ds) number s text =
     (λ copies. readDisks cap ds (suc number) (s + total copies))
 
 -- The rack and what stands behind its line.
-abbrev pub withSizes : Sizes → Tail → Plan
-withSizes z tail = record { rack = rackIn z; copies = tail .copies; left = tail .left }
+abbrev pub withRack : List Disk → Tail → Plan
+withRack rack tail = record { rack = rack; copies = tail .copies; left = tail .left }
 
 -- The whole text.
 abbrev pub planReadWith : (ℕ → ℕ) → List ℕ → Reading Plan
-planReadWith cap text =
-    lineThen withSizes (line (rackBody cap) sizesAccepted text) (λ z. readDisks cap (rackIn z) 1 0)
+planReadWith cap text = lineThen withRack (rackRead cap text) (λ rack. readDisks cap rack 1 0)
 
 -- With numbers of any size.
 unfoldable pub planRead : List ℕ → Reading Plan

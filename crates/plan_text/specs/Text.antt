@@ -1,9 +1,10 @@
--- The text of a plan, line by line as document 01 fixes it.
+-- The text of a plan, line by line as document 01 fixes it, and 02's P2 for racks of unequal disks.
 use Prim.Native.Nat.{ℕ, suc}
-use mathlib.Core.List.{List, [], _∷_, _++_}
+use mathlib.Core.Bool.{cond}
+use mathlib.Core.List.{List, [], _∷_, _++_, map}
 use lib.ListN.{length}
-use Rattle.placement.specs.Items.{Item}
-use Rattle.placement.specs.Rack.{Disk, firstSlots, firstLoad}
+use Rattle.placement.specs.Items.{Item, item}
+use Rattle.placement.specs.Rack.{Disk, firstSlots, firstLoad, allEqual}
 use Rattle.placement.specs.Plan.{Plan, servedOf, unservedOf}
 use Rattle.plan_text.specs.Ascii.{ascii}
 use Rattle.plan_text.specs.Decimal.{decimal}
@@ -26,10 +27,6 @@ abbrev pub rackLine : ℕ → ℕ → ℕ → List ℕ
 rackLine disks slots streams =
     ascii "(rack " ++ (decimal disks ++ (space ∷ decimal slots ++ (space ∷ decimal streams ++ (closed ∷ []))))
 
--- Line 1 of a rack.
-abbrev pub firstLine : List Disk → List ℕ
-firstLine rack = rackLine (length rack) (firstSlots rack) (firstLoad rack)
-
 -- A pair: film, then viewers or amount.
 abbrev pub pairText : Item → List ℕ
 pairText x = opened ∷ (decimal (x .film) ++ (space ∷ (decimal (x .amount) ++ (closed ∷ []))))
@@ -38,6 +35,21 @@ pairText x = opened ∷ (decimal (x .film) ++ (space ∷ (decimal (x .amount) ++
 abbrev pub pairsText : List Item → List ℕ
 pairsText [] = closed ∷ []
 pairsText (x ∷ xs) = space ∷ (pairText x ++ pairsText xs)
+
+-- A disk as a pair: "slots then load".
+abbrev pub diskItem : Disk → Item
+diskItem d = item (d .slots) (d .load)
+
+-- `(mixed (2 4) (4 8))`, one pair for each disk by number.
+abbrev pub mixedHead : List ℕ
+mixedHead = ascii "(mixed"
+
+abbrev pub mixedLine : List Disk → List ℕ
+mixedLine rack = mixedHead ++ pairsText (map diskItem rack)
+
+-- Line 1 of a rack: "one of equal entries keeps 01's line", and so does a rack of one disk.
+abbrev pub firstLine : List Disk → List ℕ
+firstLine rack = cond (allEqual rack) (rackLine (length rack) (firstSlots rack) (firstLoad rack)) (mixedLine rack)
 
 -- How a disk's line and the left line begin.
 abbrev pub diskHead : ℕ → List ℕ

@@ -34,7 +34,7 @@ planOf c = planHeld (c .rack) (c .tables) (c .left)
 abbrev pub wellFormedCall : WriteCall → Bool
 wellFormedCall c = heldWellFormed (c .rack) (c .tables) (c .left)
 
--- 01's refusals of writing, in its order: 1, 7, 10, 11. The length of the text is given where none applies.
+-- The refusals of writing, in their order: 12, 13, 7, 10, 11. The length of the text is given where none applies.
 abbrev pub writeVerdict : WriteCall → List ℕ → Verdict ℕ
 writeVerdict c room =
     rackJudged (c .rack)

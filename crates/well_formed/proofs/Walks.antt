@@ -10,6 +10,8 @@ use lib.Dec.{eqb, ltb}
 use lib.ListN.{length, getD, drop}
 use lib.Seq.{drop-cons}
 use Rattle.placement.specs.Items.{Item, occurrences}
+use Rattle.placement.specs.Rack.{allLike}
+use Rattle.placement.specs.Packed.{diskIn, disksIn}
 use Rattle.placement.specs.Tables.{itemIn}
 use Rattle.placement.specs.Plan.{every, distinctFilms, ascendingAbove}
 use Rattle.placement.proofs.Conjunctions.{first-fails, second-decides}
@@ -47,6 +49,15 @@ everyWalk test = record {
 -- Every place is zero.
 abbrev pub zeroWalk : Walk
 zeroWalk = record { whole = allZero; first = λ e es. eqb e 0; rest = λ e es. allZero es; step = λ e es. refl }
+
+-- Every disk has these slots and this load.
+abbrev pub likeWalk : ℕ → ℕ → Walk
+likeWalk slots load = record {
+  whole = λ es. allLike slots load (disksIn es);
+  first = λ e es. eqb slots (diskIn e .slots) && eqb load (diskIn e .load);
+  rest = λ e es. allLike slots load (disksIn es);
+  step = λ e es. refl;
+}
 
 -- No film stands twice.
 abbrev pub distinctWalk : Walk
