@@ -9,13 +9,14 @@ use borrow.Author.Tests.{leb-true}
 use lib.Dec.{leb}
 use lib.ListN.{length, take, drop, getD, length-drop, drop-of-length-le}
 use lib.Seq.{drop-drop, take-all}
-use Rattle.placement.specs.Rack.{Disk, disk, rackOf}
+use Rattle.placement.specs.Rack.{Disk}
 use Rattle.placement.specs.Tables.{itemIn}
+use Rattle.placement.specs.Packed.{diskIn, disksIn}
 use Rattle.placement.specs.Held.{front, copiesFrom}
 use Rattle.placement.specs.Plan.{diskAccepted, disksAccepted}
 use Rattle.placement.proofs.Conjunctions.{both-true, false-true}
-use Rattle.placement.proofs.Racks.{rack-length}
-use Rattle.placement.proofs.Offsets.{offset, diskAt, offset-next, offset-room, rack-disk, copies-from}
+use Rattle.placement.proofs.Offsets.{offset, diskAt, offset-next, offset-room, copies-from}
+use Rattle.placement.proofs.PackedRacks.{disks-length, disk-packed}
 use Rattle.plan_text.specs.Text.{lines, disksThen, diskLine}
 use Rattle.plan_text.specs.Held.{unusedZero, unusedZeroFrom}
 use Rattle.writer.specs.Call.{disksFormed, CopyRoom}
@@ -62,65 +63,65 @@ unused-within (x ∷ xs) copies (n ∷ counts) e (suc d) h =
     unused-within xs (drop (x .slots) copies) counts (both-true (unusedZero (x .slots) n copies) _ e .1) d (omega arith)
 
 -- Behind the last disk there is none.
-pub no-disk : (n k l d : ℕ) → n ≤ d → drop d (rackOf n k l) ≡ []
-no-disk n k l d h = drop-of-length-le (rackOf n k l) {i = d} (omega (arith, rack-length n k l))
+pub no-disk : (rack : List ℕ) (d : ℕ) → length rack ≤ d → drop d (disksIn rack) ≡ []
+no-disk rack d h = drop-of-length-le (disksIn rack) {i = d} (omega (arith, disks-length rack))
 
--- N equal disks of k slots, and disk d of them.
-module _ (n k l : ℕ) (d : ℕ) (more : d < n) where
-  -- It is one of them, and has k slots.
-  inside : d < length (rackOf n k l)
-  inside = omega (arith, rack-length n k l, more)
+-- A packed rack, disk d of it, and its slots.
+module _ (rack : List ℕ) (d : ℕ) (more : d < length rack) (k : ℕ) (slots : k ≡ diskIn (getD rack d 0) .slots) where
+  -- It is one of the disks, and has these slots.
+  inside : d < length (disksIn rack)
+  inside = omega (arith, disks-length rack, more)
 
-  slots-here : diskAt (rackOf n k l) d .slots ≡ k
-  slots-here = ap (λ (x : Disk). x .slots) (rack-disk n k l d more)
+  slots-here : diskAt (disksIn rack) d .slots ≡ k
+  slots-here = ap (λ (x : Disk). x .slots) (disk-packed rack d) ∙ sym slots
 
   -- The next disk's first place.
-  pub first-next : offset (rackOf n k l) (d + 1) ≡ offset (rackOf n k l) d + k
-  first-next = rw add-one (omega (arith, offset-next (rackOf n k l) d inside, slots-here))
+  pub first-next : offset (disksIn rack) (d + 1) ≡ offset (disksIn rack) d + k
+  first-next = rw add-one (omega (arith, offset-next (disksIn rack) d inside, slots-here))
 
   module _ (copies counts : List ℕ) where
     -- The count table has a place for it.
-    pub count-place : CopyRoom (rackOf n k l) copies counts → d < length counts
+    pub count-place : CopyRoom (disksIn rack) copies counts → d < length counts
     count-place room = omega (arith, inside, room .countPlaces)
 
     -- Its places are in the copy table.
-    pub first-room : CopyRoom (rackOf n k l) copies counts → offset (rackOf n k l) d + k ≤ length copies
-    first-room room = omega (arith, offset-room (rackOf n k l) d inside, slots-here, room .copyPlaces)
+    pub first-room : CopyRoom (disksIn rack) copies counts → offset (disksIn rack) d + k ≤ length copies
+    first-room room = omega (arith, offset-room (disksIn rack) d inside, slots-here, room .copyPlaces)
 
     -- Its copies are in its places.
-    pub count-within : unusedZeroFrom (rackOf n k l) copies counts ≡ true → getD counts d 0 ≤ k
-    count-within e = omega (arith, unused-within (rackOf n k l) copies counts e d inside, slots-here)
+    pub count-within : unusedZeroFrom (disksIn rack) copies counts ≡ true → getD counts d 0 ≤ k
+    count-within e = omega (arith, unused-within (disksIn rack) copies counts e d inside, slots-here)
 
     module _ (counted : d < length counts) (first : ℕ) where
       -- The tests from disk d on, where its places are those from `first` on: its own, then those from the next disk on.
       pub formed-next :
-          disksFormed (drop d (rackOf n k l)) (drop first copies) (drop d counts)
-          ≡ (diskFormed (disk k l) (getD counts d 0) (drop first copies)
-          && disksFormed (drop (d + 1) (rackOf n k l)) (drop (first + k) copies) (drop (d + 1) counts))
+          disksFormed (drop d (disksIn rack)) (drop first copies) (drop d counts)
+          ≡ (diskFormed (diskIn (getD rack d 0)) (getD counts d 0) (drop first copies)
+          && disksFormed (drop (d + 1) (disksIn rack)) (drop (first + k) copies) (drop (d + 1) counts))
       formed-next =
-          rw add-one (formed-from (rackOf n k l) (drop first copies) counts d inside counted
-          ∙ ap (λ (x : Disk). diskFormed x (getD counts d 0) (drop first copies) && disksFormed (drop (suc d) (rackOf n k l)) (drop (x .slots) (drop first copies)) (drop (suc d) counts)) (rack-disk n k l d more)
-          ∙ ap (λ (behind : List ℕ). diskFormed (disk k l) (getD counts d 0) (drop first copies) && disksFormed (drop (suc d) (rackOf n k l)) behind (drop (suc d) counts)) (drop-drop k first copies))
+          rw add-one (formed-from (disksIn rack) (drop first copies) counts d inside counted
+          ∙ ap₂ (λ (x : Disk) (s : ℕ). diskFormed x (getD counts d 0) (drop first copies) && disksFormed (drop (suc d) (disksIn rack)) (drop s (drop first copies)) (drop (suc d) counts)) (disk-packed rack d) slots-here
+          ∙ ap (λ (behind : List ℕ). diskFormed (diskIn (getD rack d 0)) (getD counts d 0) (drop first copies) && disksFormed (drop (suc d) (disksIn rack)) behind (drop (suc d) counts)) (drop-drop k first copies))
 
       -- The copies from disk d on: its own, as they are lent, then those from the next disk on.
       copies-next :
-          copiesFrom (drop d (rackOf n k l)) (drop first copies) (drop d counts)
+          copiesFrom (drop d (disksIn rack)) (drop first copies) (drop d counts)
           ≡ map itemIn (take (first + getD counts d 0 - first) (drop first copies))
-          ∷ copiesFrom (drop (d + 1) (rackOf n k l)) (drop (first + k) copies) (drop (d + 1) counts)
+          ∷ copiesFrom (drop (d + 1) (disksIn rack)) (drop (first + k) copies) (drop (d + 1) counts)
       copies-next =
           let count : getD counts d 0 ≡ first + getD counts d 0 - first = omega arith in
-          rw add-one (copies-from (rackOf n k l) (drop first copies) counts d inside counted
-          ∙ ap₂ (λ (m s : ℕ). front m (drop first copies) ∷ copiesFrom (drop (suc d) (rackOf n k l)) (drop s (drop first copies)) (drop (suc d) counts)) count slots-here
-          ∙ ap (λ (behind : List ℕ). front (first + getD counts d 0 - first) (drop first copies) ∷ copiesFrom (drop (suc d) (rackOf n k l)) behind (drop (suc d) counts)) (drop-drop k first copies))
+          rw add-one (copies-from (disksIn rack) (drop first copies) counts d inside counted
+          ∙ ap₂ (λ (m s : ℕ). front m (drop first copies) ∷ copiesFrom (drop (suc d) (disksIn rack)) (drop s (drop first copies)) (drop (suc d) counts)) count slots-here
+          ∙ ap (λ (behind : List ℕ). front (first + getD counts d 0 - first) (drop first copies) ∷ copiesFrom (drop (suc d) (disksIn rack)) behind (drop (suc d) counts)) (drop-drop k first copies))
 
       -- So for their lines.
       pub lines-next :
-          diskLines (d + 1) (copiesFrom (drop d (rackOf n k l)) (drop first copies) (drop d counts))
+          diskLines (d + 1) (copiesFrom (drop d (disksIn rack)) (drop first copies) (drop d counts))
           ≡ lines (diskLine (d + 1) (map itemIn (take (first + getD counts d 0 - first) (drop first copies))) ∷ [])
-          ++ diskLines (d + 1 + 1) (copiesFrom (drop (d + 1) (rackOf n k l)) (drop (first + k) copies) (drop (d + 1) counts))
+          ++ diskLines (d + 1 + 1) (copiesFrom (drop (d + 1) (disksIn rack)) (drop (first + k) copies) (drop (d + 1) counts))
       lines-next =
           let here = diskLine (d + 1) (map itemIn (take (first + getD counts d 0 - first) (drop first copies))) in
-          let behind = copiesFrom (drop (d + 1) (rackOf n k l)) (drop (first + k) copies) (drop (d + 1) counts) in
+          let behind = copiesFrom (drop (d + 1) (disksIn rack)) (drop (first + k) copies) (drop (d + 1) counts) in
           ap (diskLines (d + 1)) copies-next
           ∙ ap (λ (number : ℕ). lines (here ∷ disksThen number behind [])) (sym (add-one (d + 1)))
           ∙ sym (line-before here (disksThen (d + 1 + 1) behind []))

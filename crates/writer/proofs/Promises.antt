@@ -1,38 +1,37 @@
 -- The whole promise of `write` follows from the verdict on the call.
 use Prim.Native.Nat.{ℕ, _≤_}
-use mathlib.Core.Path.{_≡_, sym, ap, _∙_}
+use mathlib.Core.Path.{_≡_, refl, sym, ap, _∙_}
 use mathlib.Core.Bool.{true}
 use mathlib.Core.List.{List, _++_}
 use native.Mathlib.Omega.{arith}
 use lib.ListN.{length, take, drop}
 use lib.Seq.{take-append-seam, drop-append-seam}
 use Rattle.refusal.specs.Verdict.{Verdict, given, refused, Numbers}
-use Rattle.placement.specs.Rack.{rackAccepted}
 use Rattle.placement.proofs.Tests.{by-test, by-order}
 use Rattle.plan_text.specs.WriteCall.{WriteCall, planOf, roomStated, wellFormedCall, writeVerdict, writeAnswer, spaceGiven, writing, spaceAfter}
 use Rattle.writer.specs.WritePromise.{WritePromise, textHeld}
 use Rattle.writer.proofs.Calls.{formed-plan}
-use Rattle.writer.proofs.Verdicts.{refused-rack, refused-tables, refused-plan, refused-space, given-text}
+use Rattle.writer.proofs.Verdicts.{by-rack, refused-rack, refused-ratio, refused-tables, refused-plan, refused-space, given-text}
 
 -- What follows whether a call is refused or its text is written.
 by-end :
     {P : Type 0} (c : WriteCall) (room : List ℕ)
-    → ((number : ℕ) → 1 ≤ number → writeVerdict c room ≡ refused number 0 → P)
+    → ((number second : ℕ) → 1 ≤ number → ((number ≡ 13 → ⊥) → second ≡ 0) → writeVerdict c room ≡ refused number second → P)
     → (wellFormedCall c ≡ true → writeVerdict c room ≡ given (length (textHeld c)) → P)
     → P
 by-end c room refusal text =
-    by-test (rackAccepted (c .rack))
+    by-rack c room
     (λ rack.
     by-test (roomStated c)
     (λ stated.
     by-test (wellFormedCall c)
     (λ formed.
     by-order (length room) (length (textHeld c))
-    (λ short. refusal 11 (omega arith) (refused-space c room rack stated formed short))
+    (λ short. refusal 11 0 (omega arith) (λ other. refl) (refused-space c room rack stated formed short))
     (λ fits. text formed (given-text c room rack stated formed fits)))
-    (λ formed. refusal 10 (omega arith) (refused-plan c room rack stated formed)))
-    (λ stated. refusal 7 (omega arith) (refused-tables c room rack stated)))
-    (λ rack. refusal 1 (omega arith) (refused-rack c room rack))
+    (λ formed. refusal 10 0 (omega arith) (λ other. refl) (refused-plan c room rack stated formed)))
+    (λ stated. refusal 7 0 (omega arith) (λ other. refl) (refused-tables c room rack stated)))
+    refusal
 
 -- The answer and the bytes of a verdict.
 definition-answers : (c : WriteCall) (room : List ℕ) (v : Verdict ℕ) → writeVerdict c room ≡ v → writing c room ≡ writeAnswer v
@@ -55,34 +54,37 @@ module _ (c : WriteCall) (room exit : List ℕ) (answer : Numbers ℕ) (same : a
   refusal-of : {v : Verdict ℕ} → writeVerdict c room ≡ v → answer .refusal ≡ writeAnswer v .refusal
   refusal-of e = ap (λ (n : Numbers ℕ). n .refusal) (answers e)
 
+  second-of : {v : Verdict ℕ} → writeVerdict c room ≡ v → answer .second ≡ writeAnswer v .second
+  second-of e = ap (λ (n : Numbers ℕ). n .second) (answers e)
+
   length-of : {v : Verdict ℕ} → writeVerdict c room ≡ v → answer .values ≡ writeAnswer v .values
   length-of e = ap (λ (n : Numbers ℕ). n .values) (answers e)
 
-  -- Writing has no second number.
-  second-zero : answer .second ≡ 0
-  second-zero =
-      by-end c room (λ number some e. ap (λ (n : Numbers ℕ). n .second) (answers e)) (λ formed e. ap (λ (n : Numbers ℕ). n .second) (answers e))
+  -- Writing has a second number only with 13.
+  second-zero : (answer .refusal ≡ 13 → ⊥) → answer .second ≡ 0
+  second-zero other =
+      by-end c room (λ number second some zero e. second-of e ∙ zero (λ same. other (refusal-of e ∙ same))) (λ formed e. second-of e)
 
   -- A refusal has no length and changes no byte.
   module _ (some : 1 ≤ answer .refusal) where
     length-zero : answer .values ≡ 0
-    length-zero = by-end c room (λ number more e. length-of e) (λ formed e. absurd (omega (arith, refusal-of e)))
+    length-zero = by-end c room (λ number second more zero e. length-of e) (λ formed e. absurd (omega (arith, refusal-of e)))
 
     byte-kept : exit ≡ room
-    byte-kept = by-end c room (λ number more e. leaves e) (λ formed e. absurd (omega (arith, refusal-of e)))
+    byte-kept = by-end c room (λ number second more zero e. leaves e) (λ formed e. absurd (omega (arith, refusal-of e)))
 
   module _ (none : answer .refusal ≡ 0) where
     -- Without refusal the tables hold a well-formed plan.
     plan-formed : wellFormedCall c ≡ true
-    plan-formed = by-end c room (λ number some e. absurd (omega (arith, refusal-of e))) (λ formed e. formed)
+    plan-formed = by-end c room (λ number second some zero e. absurd (omega (arith, refusal-of e))) (λ formed e. formed)
 
     -- The answer is the length of the text.
     text-counted : answer .values ≡ length (textHeld c)
-    text-counted = by-end c room (λ number some e. absurd (omega (arith, refusal-of e))) (λ formed e. length-of e)
+    text-counted = by-end c room (λ number second some zero e. absurd (omega (arith, refusal-of e))) (λ formed e. length-of e)
 
     -- The space is the text, then what stood behind it.
     text-stored : exit ≡ textHeld c ++ drop (length (textHeld c)) room
-    text-stored = by-end c room (λ number some e. absurd (omega (arith, refusal-of e))) (λ formed e. leaves e)
+    text-stored = by-end c room (λ number second some zero e. absurd (omega (arith, refusal-of e))) (λ formed e. leaves e)
 
     -- The first bytes are the text.
     text-first : take (answer .values) exit ≡ textHeld c
@@ -104,7 +106,8 @@ module _ (c : WriteCall) (room exit : List ℕ) (answer : Numbers ℕ) (same : a
   promise = record {
     numbers = same;
     bytes = left;
-    refusesRack = λ rack. refusal-of (refused-rack c room rack);
+    refusesRack = λ ranges. refusal-of (refused-rack c room ranges);
+    refusesRatio = λ ranges d other. (refusal-of (refused-ratio c room ranges d other), second-of (refused-ratio c room ranges d other));
     refusesTables = λ rack stated. refusal-of (refused-tables c room rack stated);
     refusesPlan = λ rack stated formed. refusal-of (refused-plan c room rack stated formed);
     refusesSpace = λ rack stated formed short. refusal-of (refused-space c room rack stated formed short);

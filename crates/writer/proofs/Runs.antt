@@ -1,20 +1,21 @@
 -- The lines of a text as the runs that the writer stores.
-use mathlib.Core.Path.{_≡_, refl, sym, ap, _∙_}
-use mathlib.Core.Bool.{true}
+use mathlib.Core.Path.{_≡_, refl, sym, ap, ap₂, _∙_}
+use mathlib.Core.Bool.{true, false}
 use mathlib.Core.List.{List, [], _∷_, _++_, map, append-assoc}
-use Prim.Native.Nat.{ℕ, zero, suc, _+_, _≤_, _<_}
+use Prim.Native.Nat.{ℕ, suc, _+_, _≤_, _<_}
 use native.Mathlib.Numerals.{add-one}
 use lib.ListN.{length, drop, getD, drop-of-length-le}
 use lib.Seq.{drop-cons}
 use Rattle.placement.specs.Items.{Item}
-use Rattle.placement.specs.Rack.{rackOf, rackAccepted}
+use Rattle.placement.specs.Rack.{firstSlots, firstLoad, allEqual}
 use Rattle.placement.specs.Tables.{itemIn}
+use Rattle.placement.specs.Packed.{diskIn, disksIn}
 use Rattle.placement.specs.Plan.{Plan, servedOf, unservedOf}
-use Rattle.placement.proofs.Conjunctions.{false-true}
-use Rattle.placement.proofs.Racks.{rack-length}
+use Rattle.placement.proofs.Conjunctions.{cond-true, cond-false}
+use Rattle.placement.proofs.PackedRacks.{disks-length, first-slots, first-load}
 use Rattle.plan_text.specs.Ascii.{ascii}
 use Rattle.plan_text.specs.Decimal.{decimal}
-use Rattle.plan_text.specs.Text.{space, closed, lineFeed, pairText, pairsText, lines, disksThen, rackLine, firstLine, diskLine, leftLine, servedLine, textOf}
+use Rattle.plan_text.specs.Text.{space, closed, lineFeed, pairText, pairsText, lines, disksThen, rackLine, diskItem, mixedHead, mixedLine, firstLine, diskLine, leftLine, servedLine, textOf}
 use Rattle.writer.specs.Space.{twoText, diskLines}
 
 -- What stands from i on is the element at i and what stands from i + 1 on.
@@ -40,10 +41,27 @@ pub disk-runs :
     (n : ℕ) (copies : List Item) → ascii "(disk " ++ (decimal n ++ (pairsText copies ++ (lineFeed ∷ []))) ≡ lines (diskLine n copies ∷ [])
 disk-runs n copies = simp append-assoc
 
--- The line of an accepted rack of equal disks has their numbers.
-pub first-line : (n k l : ℕ) → rackAccepted (rackOf n k l) ≡ true → rackLine n k l ≡ firstLine (rackOf n k l)
-first-line zero k l e = false-true e
-first-line (suc n) k l e = ap (λ (m : ℕ). rackLine m k l) (sym (rack-length (suc n) k l))
+-- Packed disks as pairs.
+items-packed : (rack : List ℕ) → map itemIn rack ≡ map diskItem (disksIn rack)
+items-packed [] = refl
+items-packed (n ∷ ns) = ap (λ (xs : List Item). itemIn n ∷ xs) (items-packed ns)
+
+-- The line of disks that differ is three runs.
+pub mixed-runs : (rack : List ℕ) → mixedHead ++ (pairsText (map itemIn rack) ++ (lineFeed ∷ [])) ≡ lines (mixedLine (disksIn rack) ∷ [])
+mixed-runs rack = ap (λ (xs : List Item). mixedHead ++ (pairsText xs ++ (lineFeed ∷ []))) (items-packed rack)
+
+-- The first line of equal disks has their number, and the slots and streams of the first.
+pub first-equal :
+    (rack : List ℕ) (slots load : ℕ) → allEqual (disksIn rack) ≡ true → 1 ≤ length rack → slots ≡ diskIn (getD rack 0 0) .slots
+    → load ≡ diskIn (getD rack 0 0) .load → rackLine (length rack) slots load ≡ firstLine (disksIn rack)
+first-equal rack slots load equal some k l =
+    ap₂ (λ (s t : ℕ). rackLine (length rack) s t) (k ∙ sym (first-slots rack some)) (l ∙ sym (first-load rack some))
+    ∙ ap (λ (n : ℕ). rackLine n (firstSlots (disksIn rack)) (firstLoad (disksIn rack))) (sym (disks-length rack))
+    ∙ sym (cond-true (allEqual (disksIn rack)) _ (mixedLine (disksIn rack)) equal)
+
+-- That of other disks has their pairs.
+pub first-mixed : (rack : List ℕ) → allEqual (disksIn rack) ≡ false → mixedLine (disksIn rack) ≡ firstLine (disksIn rack)
+first-mixed rack other = sym (cond-false (allEqual (disksIn rack)) _ (mixedLine (disksIn rack)) other)
 
 -- A line stands before the lines after it.
 pub line-before : (line : List ℕ) (after : List (List ℕ)) → lines (line ∷ []) ++ lines after ≡ lines (line ∷ after)

@@ -14,7 +14,7 @@ use Rattle.plan_text.specs.WriteCall.{WriteCall, roomStated, wellFormedCall}
 abbrev pub disksFormed : List Disk → (copies counts : List ℕ) → Bool
 disksFormed rack copies counts = unusedZeroFrom rack copies counts && disksAccepted rack (copiesFrom rack copies counts)
 
--- None of the refusals 1, 7 and 10 applies.
+-- None of the refusals 12, 13, 7 and 10 applies.
 pub record Writable (call : WriteCall) : Type 0 where
   pub room : roomStated call ≡ true
   pub formed : wellFormedCall call ≡ true

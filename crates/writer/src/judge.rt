@@ -1,7 +1,8 @@
 // Whether the lent tables hold a well-formed plan.
-use placement::Rack;
 use placement::Slots;
 use placement::Streams;
+use placement::disk_slots;
+use placement::disk_streams;
 use well_formed::all_zero;
 use well_formed::disk_accepted;
 use well_formed::left_accepted;
@@ -9,7 +10,8 @@ ghost use mathlib.Core.Path.{_≡_};
 ghost use mathlib.Core.Bool.{true, _&&_};
 ghost use Prim.Native.Nat.{_≤_};
 ghost use lib.ListN.{length};
-ghost use Rattle.placement.specs.Rack.{disk, disksOf, rackAccepted};
+ghost use Rattle.placement.specs.Rack.{disk, rackAccepted};
+ghost use Rattle.placement.specs.Packed.{disksIn};
 ghost use Rattle.placement.specs.Tables.{tables};
 ghost use Rattle.placement.specs.Held.{front};
 ghost use Rattle.placement.specs.Plan.{diskAccepted};
@@ -36,32 +38,29 @@ fn disk_formed(slots: Slots, streams: Streams, count: u32, places: &[u64]) -> bo
 }
 
 // Whether every disk is formed: the disks from one on give the answer for all.
-fn disks_formed(rack: Rack, copies: &[u64], counts: &[u32]) -> bool
-    requires { ⌜ CopyRoom (disksOf rack) (now copies) (now counts) ⌝ }
-    ensures { λ r. ⌜ r ≡ disksFormed (disksOf rack) (now (copies .entry)) (now (counts .entry)) ⌝ }
+fn disks_formed(rack: &[u64], copies: &[u64], counts: &[u32]) -> bool
+    requires { ⌜ CopyRoom (disksIn (now rack)) (now copies) (now counts) ⌝ }
+    ensures { λ r. ⌜ r ≡ disksFormed (disksIn (now (rack .entry))) (now (copies .entry)) (now (counts .entry)) ⌝ }
 {
-    let disks = rack.disks as usize;
-    let slots = rack.slots;
-    let streams = rack.streams;
-    let places = slots.0 as usize;
     let mut first = 0;
     let mut d = 0;
-    while d < disks {
-        if !disk_formed(slots, streams, counts[d], &copies[first..]) {
+    while d < rack.len() {
+        let slots = disk_slots(rack[d]);
+        if !disk_formed(slots, disk_streams(rack[d]), counts[d], &copies[first..]) {
             return false;
         }
-        first += places;
+        first += slots.0 as usize;
         d += 1;
     }
     true
 }
 
 // Whether the tables hold a well-formed plan: the disks, then what is left.
-pub(crate) fn formed(rack: Rack, copies: &[u64], counts: &[u32], left: &[u64], films: u32) -> bool
-    requires { ⌜ rackAccepted (disksOf rack) ≡ true ⌝ }
-    requires { ⌜ roomStated (writeCall (disksOf rack) (tables (now copies) (now counts) (now left)) films) ≡ true ⌝ }
+pub(crate) fn formed(rack: &[u64], copies: &[u64], counts: &[u32], left: &[u64], films: u32) -> bool
+    requires { ⌜ rackAccepted (disksIn (now rack)) ≡ true ⌝ }
+    requires { ⌜ roomStated (writeCall (disksIn (now rack)) (tables (now copies) (now counts) (now left)) films) ≡ true ⌝ }
     ensures { λ r. ⌜ r
-        ≡ wellFormedCall (writeCall (disksOf rack) (tables (now (copies .entry)) (now (counts .entry)) (now (left .entry))) films) ⌝ }
+        ≡ wellFormedCall (writeCall (disksIn (now (rack .entry))) (tables (now (copies .entry)) (now (counts .entry)) (now (left .entry))) films) ⌝ }
 {
     if !disks_formed(rack, copies, counts) {
         return false;

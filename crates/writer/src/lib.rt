@@ -10,10 +10,10 @@ use crate::judge::formed;
 use crate::text::put_text;
 use crate::text::text_length;
 pub use answer::Written;
-use placement::Rack;
+use refusal::Judgement;
 use refusal::Refusal;
 pub use refusal_line::write_refusal;
-ghost use Rattle.placement.specs.Rack.{disksOf};
+ghost use Rattle.placement.specs.Packed.{disksIn};
 ghost use Rattle.placement.specs.Tables.{tables};
 ghost use Rattle.plan_text.specs.WriteCall.{writeCall};
 ghost use Rattle.writer.specs.Answers.{writtenNumbers};
@@ -21,7 +21,7 @@ ghost use Rattle.writer.specs.WritePromise.{WritePromise};
 
 // Writes the text of the plan held to the lent space. Every refusal is judged, and the length known, before the first byte.
 pub fn write(
-    rack: Rack,
+    rack: &[u64],
     copies: &[u64],
     counts: &[u32],
     left: &[u64],
@@ -29,11 +29,12 @@ pub fn write(
     text: &mut [u8],
 ) -> Written
     ensures { λ r. ⌜ WritePromise
-        (writeCall (disksOf rack) (tables (now (copies .entry)) (now (counts .entry)) (now (left .entry))) films)
+        (writeCall (disksIn (now (rack .entry))) (tables (now (copies .entry)) (now (counts .entry)) (now (left .entry))) films)
         (now (text .entry)) (now (text .exit)) (writtenNumbers r) ⌝ }
 {
-    if !placement::accepted(rack) {
-        return Written::Refused(Refusal::RackOutOfRange);
+    let judged = placement::judge_rack(rack);
+    if let Judgement::Refused(refusal) = judged {
+        return Written::Refused(refusal);
     }
     if !placement::room(rack, films as usize, copies.len(), counts.len(), left.len()) {
         return Written::Refused(Refusal::TablesTooShort);

@@ -4,7 +4,8 @@ use crate::number::put_number;
 use crate::number::put_word;
 ghost use mathlib.Core.List.{[], _∷_, map};
 ghost use Rattle.placement.specs.Tables.{itemIn};
-ghost use Rattle.plan_text.specs.Text.{space, pairText, pairsText, lines, rackLine, diskLine, leftLine, servedLine};
+ghost use Rattle.placement.specs.Packed.{disksIn};
+ghost use Rattle.plan_text.specs.Text.{space, pairText, pairsText, lines, rackLine, mixedLine, diskLine, leftLine, servedLine};
 ghost use Rattle.writer.specs.Space.{Put, twoText};
 
 // Stores two numbers with a space between them and a closing bracket behind.
@@ -48,6 +49,15 @@ pub(crate) fn put_rack(out: &mut [u8], at: usize, disks: u32, slots: u32, stream
     let between = put_number(out, disks_at, disks as u64);
     let slots_at = put_byte(out, between, b' ');
     let end = put_two(out, slots_at, slots as u64, streams as u64);
+    put_byte(out, end, b'\n')
+}
+
+// Stores the line of a rack whose disks differ: their slots and streams stand as pairs.
+pub(crate) fn put_mixed(out: &mut [u8], at: usize, rack: &[u64]) -> usize
+    ensures { λ next. ⌜ Put at (lines (mixedLine (disksIn (now (rack .entry))) ∷ [])) (now (out .entry)) (now (out .exit)) next ⌝ }
+{
+    let pairs_at = put_word(out, at, b"(mixed");
+    let end = put_pairs(out, pairs_at, rack);
     put_byte(out, end, b'\n')
 }
 

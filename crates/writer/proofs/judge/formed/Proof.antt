@@ -4,7 +4,7 @@ use borrow.Author.Tests.{not-true, not-false}
 use mathlib.Core.Path.{_≡_, sym, ap, _∙_}
 use mathlib.Core.Bool.{Bool, _&&_}
 use lib.Seq.{length-take-le}
-use Rattle.placement.specs.Rack.{disksOf}
+use Rattle.placement.specs.Packed.{disksIn}
 use Rattle.placement.specs.Tables.{tables}
 use Rattle.placement.specs.Held.{leftHeld}
 use Rattle.placement.specs.Plan.{leftAccepted}
@@ -17,10 +17,10 @@ use Rattle.writer.proofs.judge.formed.Tie as tie
 abbrev called : tie.Start → WriteCall
 called start =
     let a = start .args in
-    writeCall (disksOf (a .rack)) (tables (a .copies .now) (a .counts .now) (a .left .now)) (a .films)
+    writeCall (disksIn (a .rack .now)) (tables (a .copies .now) (a .counts .now) (a .left .now)) (a .films)
 
 abbrev at-start : tie.After-disks-formed → tie.Start
-at-start c = c .before .before .before .before
+at-start c = c .before .before .before .before .before
 
 -- The test of what is left.
 abbrev left-here : tie.Start → Bool
@@ -35,7 +35,7 @@ tested c =
 
 disks-formed-requires : tie.Need-disks-formed-requires
 disks-formed-requires c κs =
-    let start = c .before .before .before in
+    let start = c .before .before .before .before in
     room-copies (called start) (start .pre .1)
 
 returns : tie.Need-returns

@@ -1,11 +1,12 @@
 -- `text::put_disks` meets its contract: the lines from disk `d` on, stored from `next` on, give the whole.
 use borrow.Author.Needs.{needs}
-use mathlib.Core.Path.{_≡_, ap}
+use mathlib.Core.Path.{_≡_, refl, ap}
 use mathlib.Core.List.{List}
 use Prim.Native.Nat.{ℕ, _+_, _-_, _≤_, _<_}
 use native.Mathlib.Omega.{arith}
 use lib.ListN.{length, getD, drop}
-use Rattle.placement.specs.Rack.{Disk, rackOf}
+use Rattle.placement.specs.Rack.{Disk}
+use Rattle.placement.specs.Packed.{diskIn, disksIn}
 use Rattle.placement.specs.Held.{copiesFrom}
 use Rattle.placement.proofs.Offsets.{offset}
 use Rattle.writer.specs.Space.{diskLines}
@@ -15,39 +16,45 @@ use Rattle.writer.proofs.text.put_disks.Statement.{statement}
 use Rattle.writer.proofs.text.put_disks.Tie as tie
 
 abbrev Inv-loop : tie.InvT-loop
-Inv-loop out₀ at copies counts disks slots next₀ first₀ d₀ out next first d =
-    (d ≤ disks)
-    × ((l : ℕ)
-    → (first ≡ offset (rackOf disks slots l) d)
-    × Rest at (diskLines 1 (copiesFrom (rackOf disks slots l) copies counts)) out₀ next
-    (diskLines (d + 1) (copiesFrom (drop d (rackOf disks slots l)) (drop first copies) (drop d counts))) out)
+Inv-loop out₀ at rack copies counts next₀ first₀ d₀ out next first d =
+    (d ≤ length rack)
+    × (first ≡ offset (disksIn rack) d)
+    × Rest at (diskLines 1 (copiesFrom (disksIn rack) copies counts)) out₀ next
+    (diskLines (d + 1) (copiesFrom (drop d (disksIn rack)) (drop first copies) (drop d counts))) out
 
 abbrev μ-loop : tie.MeasureT-loop
-μ-loop out₀ at copies counts disks slots next₀ first₀ d₀ out next first d = disks - d
+μ-loop out₀ at rack copies counts next₀ first₀ d₀ out next first d = length rack - d
 
 abbrev at-start : tie.At-loop Inv-loop μ-loop → tie.Start Inv-loop μ-loop
-at-start c = c .before .before .before .before .before .before
+at-start c = c .before .before .before .before .before
+
+-- The slots of disk d.
+abbrev slots-of : tie.At-loop Inv-loop μ-loop → ℕ
+slots-of c = diskIn (getD (at-start c .args .rack .now) (c .loop .d) 0) .slots
 
 -- Disk d has a count, and its places stand within the copy table.
 count-here : (c : tie.In-loop Inv-loop μ-loop) → c .before .loop .d < length (at-start (c .before) .args .counts .now)
 count-here c =
     let start = at-start (c .before) in
-    count-place _ _ (start .args .rack .streams .0) (c .before .loop .d) (c .loop-test .taken) _ _ (start .pre .0)
+    count-place (start .args .rack .now) (c .before .loop .d) (c .loop-test .taken) _ refl (start .args .copies .now) _ (start .pre .0)
 
 room-here :
     (c : tie.In-loop Inv-loop μ-loop)
-    → (c .before .loop .first + at-start (c .before) .args .rack .slots .0 ≤ length (at-start (c .before) .args .copies .now))
-    × (getD (at-start (c .before) .args .counts .now) (c .before .loop .d) 0 ≤ at-start (c .before) .args .rack .slots .0)
+    → (c .before .loop .first + slots-of (c .before) ≤ length (at-start (c .before) .args .copies .now))
+    × (getD (at-start (c .before) .args .counts .now) (c .before .loop .d) 0 ≤ slots-of (c .before))
 room-here c =
-    let start = at-start (c .before) in
-    let loop = c .before .loop in
-    let l = start .args .rack .streams .0 in (
-      omega (arith, loop .inv .1 l .0, first-room _ _ l (loop .d) (c .loop-test .taken) _ _ (start .pre .0)),
-      count-within _ _ l (loop .d) (c .loop-test .taken) (start .args .copies .now) _ (start .pre .1),
+    let a = at-start (c .before) .args in
+    let loop = c .before .loop in (
+      omega (
+        arith,
+        loop .inv .1,
+        first-room (a .rack .now) (loop .d) (c .loop-test .taken) _ refl (a .copies .now) (a .counts .now) (at-start (c .before) .pre .0),
+      ),
+      count-within (a .rack .now) (loop .d) (c .loop-test .taken) _ refl (a .copies .now) (a .counts .now) (at-start (c .before) .pre .1),
     )
 
 loop-holds : tie.Need-loop-holds Inv-loop μ-loop
-loop-holds c = (omega arith, λ l. (omega arith, rest-start _ _ _))
+loop-holds c = (omega arith, omega arith, rest-start _ _ _)
 
 shared-slice-read-end : tie.Need-shared-slice-read-end Inv-loop μ-loop
 shared-slice-read-end c = omega (arith, count-here (c .before))
@@ -73,30 +80,24 @@ part-put-disk-start c = omega (arith, room-here (c .before .before))
 part-put-disk-end : tie.Need-part-put-disk-end Inv-loop μ-loop
 part-put-disk-end c = omega (arith, room-here (c .before .before))
 
+-- The turn that a disk's slots end.
+abbrev at-turn : tie.After-struct-known Inv-loop μ-loop → tie.In-loop Inv-loop μ-loop
+at-turn c = c .before .before .before .before .before .before .before .before .before
+
 add-first : tie.Need-add-first Inv-loop μ-loop
-add-first c = omega (arith, room-here (c .before .before .before .before .before .before))
-
-add-d : tie.Need-add-d Inv-loop μ-loop
-add-d c = omega arith
-
-loop-less : tie.Need-loop-less Inv-loop μ-loop
-loop-less c = omega arith
+add-first c = omega (arith, room-here (at-turn c), c .before .disk-slots .ensures)
 
 loop-again : tie.Need-loop-again Inv-loop μ-loop
 loop-again c =
-    let at-put = c .before .before in
-    let at-turn = at-put .before .before .before .before in
-    let at-loop = at-turn .before in
+    let at-put = c .before .before .before .before .before in
+    let at-loop = at-turn c .before in
     let a = at-start at-loop .args in
-    let n = a .rack .disks in
-    let k = a .rack .slots .0 in
     let d = at-loop .loop .d in
-    let more = at-turn .loop-test .taken in (
+    let more = at-turn c .loop-test .taken in
+    let slots = c .before .disk-slots in (
       omega arith,
-      λ l. (
-        omega (arith, at-loop .loop .inv .1 l .0, first-next n k l d more),
-        rest-step (lines-next n k l d more (a .copies .now) (a .counts .now) (count-here at-turn) (at-loop .loop .first)) (at-loop .loop .inv .1 l .1) (at-put .put-disk .ensures),
-      ),
+      omega (arith, at-loop .loop .inv .1, first-next (a .rack .now) d more (slots .result .0) (slots .ensures)),
+      rest-step (lines-next (a .rack .now) d more (slots .result .0) (slots .ensures) (a .copies .now) (a .counts .now) (count-here (at-turn c)) (at-loop .loop .first)) (at-loop .loop .inv .2) (at-put .put-disk .ensures),
     )
 
 returns : tie.Need-returns Inv-loop μ-loop
@@ -105,8 +106,8 @@ returns c =
     let loop = c .before .loop in
     rest-done
     (ap (λ (ds : List Disk). diskLines (loop .d + 1) (copiesFrom ds (drop (loop .first) (a .copies .now)) (drop (loop .d) (a .counts .now))))
-    (no-disk (a .rack .disks) (a .rack .slots .0) (a .rack .streams .0) (loop .d) (c .loop-test .left)))
-    (loop .inv .1 (a .rack .streams .0) .1)
+    (no-disk (a .rack .now) (loop .d) (c .loop-test .left)))
+    (loop .inv .2)
 
 same-length : tie.Need-same-length Inv-loop μ-loop
 same-length c = returns c .same
@@ -117,8 +118,6 @@ put-disks-spec =
     (tie.spec
     Inv-loop
     μ-loop
-    (λ c. search needs)
-    (λ c. search needs)
     loop-holds
     (λ c. search needs)
     shared-slice-read-end
@@ -130,9 +129,13 @@ put-disks-spec =
     part-put-disk-start
     part-put-disk-end
     (λ c κs. search needs)
+    (λ c. search needs)
+    (λ c. search needs)
+    (λ c κs. search needs)
+    (λ c. search needs)
     add-first
-    add-d
-    loop-less
+    (λ c. omega arith)
+    (λ c. omega arith)
     loop-again
     same-length
     returns)

@@ -1,6 +1,6 @@
 -- `text::text_length` meets its contract: the place behind the text is its length.
 use borrow.Author.Needs.{needs}
-use Rattle.placement.specs.Rack.{disksOf}
+use Rattle.placement.specs.Packed.{disksIn}
 use Rattle.placement.specs.Tables.{tables}
 use Rattle.plan_text.specs.WriteCall.{writeCall}
 use Rattle.writer.proofs.Spaces.{put-length}
@@ -11,9 +11,9 @@ use Rattle.writer.proofs.text.text_length.Tie as tie
 returns : tie.Need-returns
 returns c =
     let at-put = c .before in
-    let start = at-put .before .before .before .before .before in
+    let start = at-put .before .before .before .before .before .before in
     let a = start .args in
-    let call = writeCall (disksOf (a .rack)) (tables (a .copies .now) (a .counts .now) (a .left .now)) (a .films) in
+    let call = writeCall (disksIn (a .rack .now)) (tables (a .copies .now) (a .counts .now) (a .left .now)) (a .films) in
     put-length (at-put .put-text .ensures) (text-short call (start .pre .formed))
 
 pub text-length-spec : {M : Type 1} → statement M
