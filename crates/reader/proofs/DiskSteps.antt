@@ -7,69 +7,65 @@ use native.Mathlib.Omega.{arith}
 use lib.ListN.{length, take, drop, set, length-set, length-take, length-drop, length-replicate}
 use borrow.Rule.Slice.PartMut.{putMid, same-len-mid}
 use Rattle.placement.specs.Items.{Item}
-use Rattle.placement.specs.Rack.{Disk, disksOf, mostDisks}
+use Rattle.placement.specs.Rack.{Disk, mostDisks}
 use Rattle.placement.specs.Plan.{diskAccepted}
 use Rattle.placement.specs.Held.{front}
-use Rattle.placement.specs.declared.rack.Rack.{Rack}
 use Rattle.placement.proofs.Conjunctions.{false-true}
-use Rattle.placement.proofs.Racks.{rack-accepted}
+use Rattle.placement.proofs.Racks.{accepted-disks}
+use Rattle.placement.proofs.Offsets.{diskAt}
 use Rattle.plan_text.specs.Text.{diskHead}
 use Rattle.plan_text.specs.Parse.{Parse, next}
 use Rattle.plan_text.specs.Reading.{line, pairsBody, readDisks}
 use Rattle.plan_text.specs.Capped.{saturated}
 use Rattle.placement.proofs.Formed.{disk-load}
-use Rattle.plan_text.proofs.Limits.{sizes-disks, sizes-streams}
 use Rattle.reader.specs.declared.cursor.Cursor.{Cursor}
 use Rattle.reader.specs.declared.line.PairsLine.{PairsLine}
 use Rattle.reader.specs.Cursor.{place, valued}
-use Rattle.reader.specs.Line.{sizes, LineRead}
+use Rattle.reader.specs.Line.{LineRead}
 use Rattle.reader.specs.Disks.{Filled, DisksReady, DisksRead, prefixed}
 use Rattle.reader.proofs.Pieces.{line-parsed, line-refused}
-use Rattle.reader.proofs.RackDisks.{diskOf, within, upto, onward, next-first, places-room}
+use Rattle.reader.proofs.RackDisks.{upto, onward, next-first, places-room, load-most}
 use Rattle.reader.proofs.DiskTables.{filled-more, served-end}
 use Rattle.reader.proofs.DiskReading.{disks-more, disks-refused}
 use Rattle.reader.proofs.DisksSoFar.{SoFar}
 
-module _ {text : List ℕ} {rack : Rack} {start : Cursor} {copies₀ counts₀ : List ℕ}
+module _ {text : List ℕ} {rack : List Disk} {start : Cursor} {copies₀ counts₀ : List ℕ}
     (ready : DisksReady start rack copies₀ counts₀) where
-  module _ {copies counts : List ℕ} {here : Cursor} {sum from i : ℕ}
-      (now : SoFar text rack start copies₀ counts₀ copies counts here sum from i) (less : i < rack .disks) where
+  module _ {copies counts : List ℕ} {here : Cursor} {sum from i k : ℕ} {d : Disk}
+      (now : SoFar text rack start copies₀ counts₀ copies counts here sum from i) (less : i < length rack) (is : diskAt rack i ≡ d)
+      (slots-are : k ≡ d .slots) where
     abbrev size : ℕ
-    size = (from + rack .slots .0) - from
+    size = (from + k) - from
 
     -- The part of the copy table that the disk has.
     abbrev part : List ℕ
     part = take size (drop from copies)
 
-    pub room : from + rack .slots .0 ≤ 2048
-    room =
-        omega (
-          arith,
-          now .first,
-          places-room rack i less (rack-accepted (rack .disks) (rack .slots .0) (rack .streams .0) ∙ ready .accepted),
-        )
+    pub room : from + k ≤ 2048
+    room = omega (arith, now .first, slots-are, places-room rack i d less is (ready .accepted))
 
     pub few-disks : i < 64
-    few-disks = omega (arith, less, sizes-disks (sizes rack) (ready .accepted))
+    few-disks = omega (arith, less, accepted-disks rack (ready .accepted) .1)
 
-    pub part-length : length part ≡ rack .slots .0
+    pub part-length : length part ≡ k
     part-length = omega (arith, length-take size (drop from copies), length-drop from copies, now .copiesLength, room)
 
-    module _ {r : PairsLine} {part′ : List ℕ} (read : LineRead (diskHead (i + 1)) (diskAccepted (diskOf rack)) text here part part′ r) where
+    module _ {r : PairsLine} {part′ : List ℕ} (read : LineRead (diskHead (i + 1)) (diskAccepted d) text here part part′ r) where
       abbrev x : List Item
       x = front (r .count) part′
 
       abbrev body : List ℕ → Parse (List Item)
-      body t = line (pairsBody saturated (diskHead (i + 1)) (rack .slots .0)) (diskAccepted (diskOf rack)) t
+      body t = line (pairsBody saturated (diskHead (i + 1)) (d .slots)) (diskAccepted d) t
 
       valued-line : valued x text (r .after) ≡ next (place text here) (λ u t. body t)
       valued-line =
           read .reads
-          ∙ ap (λ (n : ℕ). next (place text here) (λ u t. line (pairsBody saturated (diskHead (i + 1)) n) (diskAccepted (diskOf rack)) t)) part-length
+          ∙ ap (λ (n : ℕ). next (place text here) (λ u t. line (pairsBody saturated (diskHead (i + 1)) n) (diskAccepted d) t))
+          (part-length ∙ slots-are)
 
       -- The number of disks before it.
-      number : length (take i (disksOf rack)) ≡ i
-      number = omega (arith, length-take i (disksOf rack), within rack i less)
+      number : length (take i rack) ≡ i
+      number = omega (arith, length-take i rack, less)
 
       -- The line is refused.
       pub so-far-stopped :
@@ -80,40 +76,40 @@ module _ {text : List ℕ} {rack : Rack} {start : Cursor} {copies₀ counts₀ :
         fit = λ f. false-true (sym e ∙ f);
         stopped = λ f.
             now .reads
-            ∙ disks-refused (now .layout) (drop (here .at) text) (drop i (disksOf rack)) i sum (diskOf rack) (drop (i + 1) (disksOf rack))
-            (onward rack i less) (now .filled .number ∙ number) (line-refused text x here (r .after) body valued-line (now .fits) e);
+            ∙ disks-refused (now .layout) (drop (here .at) text) (drop i rack) i sum d (drop (i + 1) rack)
+            (onward rack i d less is) (now .filled .number ∙ number) (line-refused text x here (r .after) body valued-line (now .fits) e);
       }
 
       -- What the disk's copies sum to.
       pub small : r .after .fits ≡ true → r .sum ≤ 65535
       small e =
-          omega (arith, read .summed, disk-load (diskOf rack) x (read .passed e), sizes-streams (sizes rack) (ready .accepted))
+          omega (arith, read .summed, disk-load d x (read .passed e), load-most rack i d less is (ready .accepted))
 
       -- The line fits.
       pub so-far-more :
-          r .after .fits ≡ true → length part′ ≡ rack .slots .0
+          r .after .fits ≡ true → length part′ ≡ k
           → SoFar text rack start copies₀ counts₀ (putMid from size copies part′) (set counts i (r .count)) (r .after) (sum + r .sum)
-          (from + rack .slots .0) (i + 1)
+          (from + k) (i + 1)
       so-far-more e wide = record {
         fits = e;
         few = omega (arith, less);
-        first = ap (λ (n : ℕ). n + rack .slots .0) (now .first) ∙ sym (next-first rack i less);
+        first = omega (arith, now .first, slots-are, next-first rack i d less is);
         copiesLength = same-len-mid from size copies part′ (wide ∙ sym part-length) ∙ now .copiesLength;
         countsLength = length-set counts i (r .count) ∙ now .countsLength;
         bounded = omega (arith, now .bounded, small e);
         layout = now .layout ++ (x ∷ []);
         filled =
             subst (λ (ds : List Disk). Filled ds (now .layout ++ (x ∷ [])) copies₀ counts₀ (putMid from size copies part′) (set counts i (r .count)))
-            (sym (upto rack i less))
-            (filled-more (take i (disksOf rack)) (now .layout) (diskOf rack) (r .count) from size i 2048 copies₀ counts₀ copies counts part′
-            (now .filled) (ready .ownCopies) (now .first) (omega arith) room (sym number)
-            (omega (arith, few-disks, ap length (ready .ownCounts), length-replicate {A = ℕ} mostDisks 0)) (read .stored) wide);
+            (sym (upto rack i d less is))
+            (filled-more (take i rack) (now .layout) d (r .count) from size i 2048 copies₀ counts₀ copies counts part′
+            (now .filled) (ready .ownCopies) (now .first) (omega (arith, slots-are)) (omega (arith, slots-are, room)) (sym number)
+            (omega (arith, few-disks, ap length (ready .ownCounts), length-replicate {A = ℕ} mostDisks 0)) (read .stored) (wide ∙ slots-are));
         sumIs = omega (arith, now .sumIs, read .summed, served-end (now .layout) x);
         reads =
             now .reads
-            ∙ disks-more (now .layout) (drop (here .at) text) (drop i (disksOf rack)) i sum (diskOf rack) (drop (i + 1) (disksOf rack))
-            (onward rack i less) x (drop (r .after .at) text) (line-parsed text x here (r .after) body valued-line (now .fits) e)
+            ∙ disks-more (now .layout) (drop (here .at) text) (drop i rack) i sum d (drop (i + 1) rack)
+            (onward rack i d less is) x (drop (r .after .at) text) (line-parsed text x here (r .after) body valued-line (now .fits) e)
             ∙ ap
-            (λ (s : ℕ). prefixed (now .layout ++ (x ∷ [])) (readDisks saturated (drop (i + 1) (disksOf rack)) ((i + 1) + 1) s (drop (r .after .at) text)))
+            (λ (s : ℕ). prefixed (now .layout ++ (x ∷ [])) (readDisks saturated (drop (i + 1) rack) ((i + 1) + 1) s (drop (r .after .at) text)))
             (ap (λ (n : ℕ). sum + n) (sym (read .summed)));
       }

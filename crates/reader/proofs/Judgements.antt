@@ -10,6 +10,7 @@ use Rattle.refusal.specs.Numbers.{refusalOf}
 use Rattle.refusal.specs.declared.Refusal.{Refusal}
 use Rattle.refusal.specs.declared.Refusal.the-variants.{Line}
 use Rattle.refusal.proofs.Verdicts.{Numbered, unless-numbered}
+use Rattle.placement.specs.Rack.{Disk}
 use Rattle.placement.specs.Tables.{Tables}
 use Rattle.placement.specs.Plan.{Plan}
 use Rattle.plan_text.specs.Reading.{Reading, whole, refusedAfter, planReadWith, planRead}
@@ -23,17 +24,21 @@ use Rattle.reader.specs.Pass.{Judged}
 pub given-refused : {P : Type 0} (v : Verdict Plan) {p : Plan} {n s : ℕ} → v ≡ given p → v ≡ refused n s → P
 given-refused v d e = let z : _≡_ {A = ℕ} 0 1 = cc in absurd (omega arith)
 
--- A refusal asks nothing of the tables.
+-- A refusal asks nothing of the disks and the tables.
 pub judged-refused :
-    (v : Verdict Plan) (entry exit : Tables) (r : Refusal) → v ≡ refusalOf r → Judged v entry exit (Refused r)
-judged-refused v entry exit r e = record { numbers = sym (ap answerTo e); tables = λ p f. given-refused v f e }
+    (v : Verdict Plan) (disks : List Disk) (entry exit : Tables) (r : Refusal) → v ≡ refusalOf r → Judged v disks entry exit (Refused r)
+judged-refused v disks entry exit r e = record {
+  numbers = sym (ap answerTo e);
+  rack = λ p f. given-refused v f e;
+  tables = λ p f. given-refused v f e;
+}
 
 -- A text that is refused after m lines is refused at line m + 1.
 pub refused-at :
-    (text : List ℕ) (entry exit : Tables) (m n : ℕ) → planRead text ≡ refusedAfter m → n ≡ suc m
-    → Judged (linesJudged (planRead text)) entry exit (Refused (Line n))
-refused-at text entry exit m n e same =
-    judged-refused (linesJudged (planRead text)) entry exit (Line n) (ap linesJudged e ∙ ap (λ (k : ℕ). refused 9 k) (sym same))
+    (text : List ℕ) (disks : List Disk) (entry exit : Tables) (m n : ℕ) → planRead text ≡ refusedAfter m → n ≡ suc m
+    → Judged (linesJudged (planRead text)) disks entry exit (Refused (Line n))
+refused-at text disks entry exit m n e same =
+    judged-refused (linesJudged (planRead text)) disks entry exit (Line n) (ap linesJudged e ∙ ap (λ (k : ℕ). refused 9 k) (sym same))
 
 -- Numbers that stop at 2³² − 1 say the same.
 pub capped : (text : List ℕ) → planReadWith saturated text ≡ planRead text

@@ -2,26 +2,18 @@
 use mathlib.Core.Path.{_≡_, refl, sym, ap, _∙_}
 use mathlib.Core.Bool.{Bool, true, false, cond, _&&_}
 use mathlib.Core.List.{List, [], _∷_, _++_}
-use Prim.Native.Nat.{ℕ, _≤_}
-use native.Mathlib.Omega.{arith}
-use lib.ListN.{length, take, drop, length-take, length-map}
-use Rattle.placement.specs.Items.{Item}
-use Rattle.placement.specs.Tables.{itemIn}
-use Rattle.placement.specs.Held.{front}
+use Prim.Native.Nat.{ℕ}
+use lib.ListN.{drop}
 use Rattle.plan_text.specs.Ascii.{ascii}
 use Rattle.plan_text.specs.Decimal.{decimal}
 use Rattle.plan_text.specs.Text.{space, closed, lineFeed, diskHead, servedLine}
-use Rattle.plan_text.specs.Parse.{Parse, parsed, unparsed, next, byte, literal, number, pairs}
-use Rattle.plan_text.specs.Reading.{line, pairsBody}
-use Rattle.plan_text.specs.Capped.{saturated}
+use Rattle.plan_text.specs.Parse.{Parse, parsed, unparsed, next, byte, literal, number}
+use Rattle.plan_text.specs.Reading.{line}
 use Rattle.plan_text.proofs.Pieces.{unparsed-parsed}
-use Rattle.well_formed.specs.Sum.{Summed}
 use Rattle.reader.specs.declared.cursor.Cursor.{Cursor}
-use Rattle.reader.specs.declared.pairs.Pairs.{Pairs}
 use Rattle.reader.specs.Cursor.{place}
-use Rattle.reader.specs.Pairs.{PairsRead}
-use Rattle.reader.specs.Line.{lineEnd, LineRead}
-use Rattle.reader.proofs.Pieces.{next-same, piece, piece-valued, literal-append, fitting}
+use Rattle.reader.specs.Line.{lineEnd}
+use Rattle.reader.proofs.Pieces.{next-same, piece, piece-valued, literal-append}
 use Rattle.reader.proofs.Bytes.{literal-one}
 
 -- The test of a line, behind its line feed.
@@ -114,30 +106,3 @@ served-read s u p a b c d e r h₁ h₂ h₃ h₄ h₅ h₆ =
     whole =
         literal-before (ascii "(served ") (decimal s ++ (space ∷ (decimal u ++ (closed ∷ [])))) e a p h₁
         (literal-before (decimal s) (space ∷ (decimal u ++ (closed ∷ []))) e b a h₂ third)
-
--- A line of pairs: head, pairs, line feed, test and sum.
-pub pairs-line :
-    (head : List ℕ) (test : List Item → Bool) (text : List ℕ) (cursor headed after : Cursor)
-    (entries entries′ : List ℕ) (found : Pairs) (accepted : Bool) (sum : ℕ)
-    → place text headed ≡ next (place text cursor) (λ u t. literal head t)
-    → PairsRead text headed entries entries′ found
-    → accepted ≡ test (front (found .count) entries′)
-    → place text after ≡ next (place text (found .after)) (λ u t. lineEnd accepted t)
-    → Summed (front (found .count) entries′) sum
-    → length entries′ ≤ 4294967296
-    → LineRead head test text cursor entries entries′ (record { count = found .count; sum = sum; after = after })
-pairs-line head test text cursor headed after entries entries′ found accepted sum h₁ h₂ h₃ h₄ h₅ h₆ =
-    let xs = front (found .count) entries′ in
-    let end : place text after ≡ next (place text (found .after)) (λ u t. lineEnd (test xs) t) =
-    h₄ ∙ ap (λ (b : Bool). next (place text (found .after)) (λ u t. lineEnd b t)) h₃ in
-    let plain : length xs ≤ 4294967296 =
-    omega (arith, length-map (take (found .count) entries′) itemIn, length-take (found .count) entries′) in
-    record {
-      reads =
-          line-read xs (pairsBody saturated head (length entries)) test (place text after) (place text (found .after)) (place text cursor)
-          (h₂ .reads ∙ piece (place text headed) (place text cursor) (literal head) (pairs saturated (length entries)) h₁)
-          end;
-      stored = h₂ .stored;
-      summed = h₅ .plain plain;
-      passed = λ e. lineEnd-passed (test xs) (place text (found .after)) (drop (after .at) text) (sym end ∙ fitting text after e);
-    }

@@ -1,19 +1,16 @@
--- What stands in a plan that was read: a line that passed its test, the numbers of its rack, and a table written at its front.
+-- What stands in a plan that was read: a line that passed its test, and a table written at its front.
 use mathlib.Core.Path.{_≡_, sym, ap, ap₂, _∙_}
 use mathlib.Core.Bool.{Bool, true, cond}
 use mathlib.Core.List.{List, _++_, map}
-use Prim.Native.Nat.{ℕ, zero, suc, _≤_}
+use Prim.Native.Nat.{ℕ}
 use native.Mathlib.Omega.{arith}
 use lib.ListN.{length, drop, length-map, take-append-drop}
-use Rattle.placement.specs.Rack.{rackOf, firstSlots, firstLoad}
 use Rattle.placement.specs.Tables.{entryOf, written}
 use Rattle.placement.specs.Held.{front}
-use Rattle.placement.proofs.Racks.{rack-length}
 use Rattle.placement.proofs.ReadBack.{front-length, front-entries}
 use Rattle.plan_text.specs.Text.{lineFeed}
 use Rattle.plan_text.specs.Parse.{Parse, parsed, unparsed, next, byte}
 use Rattle.plan_text.specs.Reading.{line}
-use Rattle.plan_text.specs.ReadCall.{told}
 use Rattle.plan_text.proofs.Pieces.{next-parsed, chosen-parsed, parsed-value}
 use Rattle.reader.specs.Pairs.{Stored}
 
@@ -28,12 +25,6 @@ line-passed body test t a after e =
     (λ u t₂ ended chosen.
     chosen-parsed (test x) (parsed x t₂) chosen
     (λ held same. ap test (sym (parsed-value same)) ∙ held)))
-
--- The numbers of a plan of equal disks.
-pub told-sizes :
-    (n k l s u m : ℕ) → 1 ≤ n → told n k l s u m ≡ told (length (rackOf n k l)) (firstSlots (rackOf n k l)) (firstLoad (rackOf n k l)) s u m
-told-sizes zero k l s u m some = absurd (omega arith)
-told-sizes (suc n) k l s u m some = ap (λ (i : ℕ). told i k l s u m) (sym (rack-length (suc n) k l))
 
 -- A table whose first n places were written.
 pub stored-written :

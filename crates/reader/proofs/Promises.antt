@@ -1,20 +1,22 @@
--- The promises of reading in document 01's words, from the verdict on the text and the room in the tables.
+-- The promises of reading in document 01's words, from the verdict on the text and the room in what is lent.
 use mathlib.Core.Path.{_≡_, refl, sym, ap, _∙_, subst}
-use mathlib.Core.Bool.{true, false}
+use mathlib.Core.Bool.{true}
 use mathlib.Core.List.{List}
 use mathlib.Core.Logic.{inl, inr}
 use Prim.Native.Nat.{ℕ, _≤_}
 use native.Mathlib.Omega.{arith}
-use lib.ListN.{length}
+use lib.Dec.{leb}
+use lib.ListN.{length, take}
 use Rattle.refusal.specs.Verdict.{Verdict, given, refused, Numbers}
-use Rattle.refusal.proofs.Verdicts.{Numbered, unless-passes, unless-refuses}
+use Rattle.refusal.proofs.Verdicts.{Numbered, unless-passes}
+use Rattle.placement.specs.Rack.{Disk}
 use Rattle.placement.specs.Tables.{Tables, roomFor}
 use Rattle.placement.specs.Plan.{Plan}
 use Rattle.placement.specs.Held.{planHeld}
 use Rattle.plan_text.specs.Accepted.{Accepted, RefusedLine}
-use Rattle.plan_text.specs.ReadCall.{Told, answerTo, textVerdict, withTables, tablesGiven, holdingPlan, judging, reading, tablesAfterReading}
+use Rattle.plan_text.specs.ReadCall.{Told, answerTo, textVerdict, withTables, rackGiven, tablesGiven, holdingRack, holdingPlan, judging, reading, rackAfterReading, tablesAfterReading}
 use Rattle.plan_text.proofs.Verdicts.{verdict-text, verdict-wellFormed, verdict-same, verdict-line}
-use Rattle.plan_text.proofs.ReadTables.{holding-held}
+use Rattle.plan_text.proofs.ReadTables.{holding-rack, holding-held}
 use Rattle.reader.specs.Promise.{PlanOf, JudgePromise, ReadPromise}
 use Rattle.reader.proofs.Judgements.{given-refused, text-numbered}
 
@@ -46,40 +48,46 @@ module _ (text : List ℕ) where
 
     -- The plan is stored.
     pub read-given :
-        (entry exit : Tables) → roomFor (p .rack) (length (p .left)) entry ≡ true → exit ≡ holdingPlan p entry
-        → ReadPromise text entry exit answer
-    unfolding reading tablesAfterReading plan-of
-    read-given entry exit room held =
-        let verdict : withTables entry (textVerdict text) ≡ given p =
-        ap (withTables entry) e ∙ unless-passes (roomFor (p .rack) (length (p .left)) entry) 7 0 (given p) room in
+        (lent : List Disk) (entry : Tables) (rackExit : List Disk) (exit : Tables) → leb (length (p .rack)) (length lent) ≡ true
+        → roomFor (p .rack) (length (p .left)) entry ≡ true → rackExit ≡ holdingRack p lent → exit ≡ holdingPlan p entry
+        → ReadPromise text lent entry rackExit exit answer
+    unfolding reading rackAfterReading tablesAfterReading plan-of
+    read-given lent entry rackExit exit enough room begins held =
+        let verdict : withTables lent entry (textVerdict text) ≡ given p =
+        ap (withTables lent entry) e
+        ∙ unless-passes (leb (length (p .rack)) (length lent)) 7 0 _ enough
+        ∙ unless-passes (roomFor (p .rack) (length (p .left)) entry) 7 0 (given p) room in
         record {
           numbers = is ∙ sym (ap answerTo verdict);
+          rack = begins ∙ sym (ap (rackGiven lent) verdict);
           tables = held ∙ sym (ap (tablesGiven entry) verdict);
           unchanged = λ some. absurd (omega (arith, refusal-none));
           refusedLine = λ h. let z : _≡_ {A = ℕ} 0 9 = sym refusal-none ∙ h in absurd (omega arith);
           planned = λ h. record {
             of = plan-of;
             held =
-                ap (λ (n : ℕ). planHeld (p .rack) exit n) (ap (λ (m : Numbers Told). m .values .left) is)
+                ap (λ (n : Numbers Told). planHeld (take (n .values .disks) rackExit) exit (n .values .left)) is
+                ∙ ap (λ (ds : List Disk). planHeld (take (length (p .rack)) ds) exit (length (p .left))) begins
+                ∙ ap (λ (ds : List Disk). planHeld ds exit (length (p .left))) (holding-rack p lent)
                 ∙ ap (λ (t : Tables). planHeld (p .rack) t (length (p .left))) held
                 ∙ holding-held p entry (verdict-wellFormed text p e);
           };
           accepted = λ a. inl refusal-none;
         }
 
-    -- The tables are too short for it.
+    -- The list of entries or the tables are too short for it.
     pub read-short :
-        (entry : Tables) (short : Numbers Told) → roomFor (p .rack) (length (p .left)) entry ≡ false → short ≡ answerTo (refused 7 0)
-        → ReadPromise text entry entry short
-    unfolding reading tablesAfterReading
-    read-short entry short room said =
-        let verdict : withTables entry (textVerdict text) ≡ refused 7 0 =
-        ap (withTables entry) e ∙ unless-refuses (roomFor (p .rack) (length (p .left)) entry) 7 0 (given p) room in
+        (lent : List Disk) (entry : Tables) (short : Numbers Told) → withTables lent entry (given p) ≡ refused 7 0
+        → short ≡ answerTo (refused 7 0) → ReadPromise text lent entry lent entry short
+    unfolding reading rackAfterReading tablesAfterReading
+    read-short lent entry short seventh said =
+        let verdict : withTables lent entry (textVerdict text) ≡ refused 7 0 = ap (withTables lent entry) e ∙ seventh in
         let seven : short .refusal ≡ 7 = ap (λ (n : Numbers Told). n .refusal) said in
         record {
           numbers = said ∙ sym (ap answerTo verdict);
+          rack = sym (ap (rackGiven lent) verdict);
           tables = sym (ap (tablesGiven entry) verdict);
-          unchanged = λ some. refl;
+          unchanged = λ some. (refl, refl);
           refusedLine = λ h. absurd (omega arith);
           planned = λ h. absurd (omega arith);
           accepted = λ a. inr seven;
@@ -106,13 +114,14 @@ module _ (text : List ℕ) where
       accepted = λ a. given-refused (textVerdict text) (accepted-verdict text a) e;
     }
 
-    -- No table changes.
-    pub read-declined : (entry : Tables) → ReadPromise text entry entry answer
-    unfolding reading tablesAfterReading
-    read-declined entry = record {
-      numbers = is ∙ sym (ap (λ (v : Verdict Plan). answerTo (withTables entry v)) e);
-      tables = sym (ap (λ (v : Verdict Plan). tablesGiven entry (withTables entry v)) e);
-      unchanged = λ some. refl;
+    -- Nothing changes.
+    pub read-declined : (lent : List Disk) (entry : Tables) → ReadPromise text lent entry lent entry answer
+    unfolding reading rackAfterReading tablesAfterReading
+    read-declined lent entry = record {
+      numbers = is ∙ sym (ap (λ (v : Verdict Plan). answerTo (withTables lent entry v)) e);
+      rack = sym (ap (λ (v : Verdict Plan). rackGiven lent (withTables lent entry v)) e);
+      tables = sym (ap (λ (v : Verdict Plan). tablesGiven entry (withTables lent entry v)) e);
+      unchanged = λ some. (refl, refl);
       refusedLine = line-of;
       planned = λ h. absurd (omega (arith, some, refusal-same));
       accepted = λ a. given-refused (textVerdict text) (accepted-verdict text a) e;

@@ -1,49 +1,37 @@
 -- One disk of a rack: the disks up to it and from it on, and its first place.
-use mathlib.Core.Path.{_≡_, sym, ap, _∙_}
+use mathlib.Core.Path.{_≡_, sym, ap, subst, _∙_}
 use mathlib.Core.Bool.{true}
-use mathlib.Core.List.{[], _∷_, _++_}
+use mathlib.Core.List.{List, [], _∷_, _++_}
 use Prim.Native.Nat.{ℕ, suc, _+_, _≤_, _<_}
 use native.Mathlib.Omega.{arith}
 use native.Mathlib.Numerals.{add-one}
 use lib.ListN.{length, take, drop}
 use lib.Seq.{take-suc}
-use Rattle.placement.specs.Rack.{Disk, disk, disksOf, rackAccepted}
-use Rattle.placement.specs.declared.rack.Rack.{Rack}
-use Rattle.placement.proofs.Racks.{rack-length, accepted-allSlots}
-use Rattle.placement.proofs.Offsets.{offset, disks-from, offset-next, offset-room, rack-disk}
-
--- A disk of the rack.
-abbrev pub diskOf : Rack → Disk
-diskOf rack = disk (rack .slots .0) (rack .streams .0)
+use Rattle.placement.specs.Rack.{Disk, disk, mostLoad, rackAccepted}
+use Rattle.placement.proofs.Each.{each-at}
+use Rattle.placement.proofs.Racks.{accepted-allSlots}
+use Rattle.placement.proofs.DiskRanges.{DiskInRange, accepted-range}
+use Rattle.placement.proofs.Offsets.{offset, diskAt, disks-from, offset-next, offset-room}
 
 -- Disk number i, from 0: the disks up to it, and from it on.
-module _ (rack : Rack) (i : ℕ) (less : i < rack .disks) where
-  pub within : i < length (disksOf rack)
-  within = omega (arith, rack-length (rack .disks) (rack .slots .0) (rack .streams .0))
-
-  pub upto : take (i + 1) (disksOf rack) ≡ take i (disksOf rack) ++ (diskOf rack ∷ [])
+module _ (rack : List Disk) (i : ℕ) (d : Disk) (less : i < length rack) (is : diskAt rack i ≡ d) where
+  pub upto : take (i + 1) rack ≡ take i rack ++ (d ∷ [])
   upto =
-      ap (λ (n : ℕ). take n (disksOf rack)) (add-one i)
-      ∙ take-suc (disksOf rack) i (disk 0 0) within
-      ∙ ap (λ (d : Disk). take i (disksOf rack) ++ (d ∷ [])) (rack-disk (rack .disks) (rack .slots .0) (rack .streams .0) i less)
+      ap (λ (n : ℕ). take n rack) (add-one i) ∙ take-suc rack i (disk 0 0) less ∙ ap (λ (x : Disk). take i rack ++ (x ∷ [])) is
 
-  pub onward : drop i (disksOf rack) ≡ diskOf rack ∷ drop (i + 1) (disksOf rack)
+  pub onward : drop i rack ≡ d ∷ drop (i + 1) rack
   onward =
-      disks-from (disksOf rack) i within
-      ∙ ap (λ (d : Disk). d ∷ drop (suc i) (disksOf rack)) (rack-disk (rack .disks) (rack .slots .0) (rack .streams .0) i less)
-      ∙ ap (λ (n : ℕ). diskOf rack ∷ drop n (disksOf rack)) (sym (add-one i))
+      disks-from rack i less
+      ∙ ap (λ (x : Disk). x ∷ drop (suc i) rack) is
+      ∙ ap (λ (n : ℕ). d ∷ drop n rack) (sym (add-one i))
 
-  pub next-first : offset (disksOf rack) (i + 1) ≡ offset (disksOf rack) i + rack .slots .0
-  next-first =
-      ap (offset (disksOf rack)) (add-one i)
-      ∙ offset-next (disksOf rack) i within
-      ∙ ap (λ (d : Disk). offset (disksOf rack) i + d .slots) (rack-disk (rack .disks) (rack .slots .0) (rack .streams .0) i less)
+  pub next-first : offset rack (i + 1) ≡ offset rack i + d .slots
+  next-first = ap (offset rack) (add-one i) ∙ offset-next rack i less ∙ ap (λ (x : Disk). offset rack i + x .slots) is
 
-  pub places-room : rackAccepted (disksOf rack) ≡ true → offset (disksOf rack) i + rack .slots .0 ≤ 2048
-  places-room e =
-      omega (
-        arith,
-        offset-room (disksOf rack) i within,
-        ap (λ (d : Disk). d .slots) (rack-disk (rack .disks) (rack .slots .0) (rack .streams .0) i less),
-        accepted-allSlots (disksOf rack) e,
-      )
+  -- Its places are among those of the largest rack, and its load is in range.
+  module _ (e : rackAccepted rack ≡ true) where
+    pub places-room : offset rack i + d .slots ≤ 2048
+    places-room = omega (arith, offset-room rack i less, ap (λ (x : Disk). x .slots) is, accepted-allSlots rack e)
+
+    pub load-most : d .load ≤ mostLoad
+    load-most = subst DiskInRange is (each-at DiskInRange i rack (disk 0 0) (accepted-range rack e) less) .load

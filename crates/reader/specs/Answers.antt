@@ -7,8 +7,7 @@ use Rattle.reader.specs.declared.answer.ReadAnswer.the-variants.{Plan, R
 
 -- The answer as a verdict: what it tells of a plan, or its refusal.
 abbrev pub answerVerdict : ReadAnswer → Verdict Told
-answerVerdict (Plan p) =
-    given (told (p .rack .disks) (p .rack .slots .0) (p .rack .streams .0) (p .served) (p .unserved) (p .left))
+answerVerdict (Plan p) = given (told (p .disks) (p .served) (p .unserved) (p .left))
 answerVerdict (Refused r) = refusalOf r
 
 abbrev pub numbersOf : ReadAnswer → Numbers Told

@@ -2,6 +2,7 @@ pub mod Class
 pub mod Cursor
 pub mod Pairs
 pub mod Line
+pub mod First
 pub mod Disks
 pub mod Tail
 pub mod Answers

@@ -1,7 +1,8 @@
 // The lines of all disks.
 use crate::cursor::Cursor;
 use crate::line::disk_line;
-use placement::Rack;
+use placement::disk_slots;
+ghost use Rattle.placement.specs.Packed.{disksIn};
 ghost use Rattle.reader.specs.Disks.{DisksReady, DisksRead};
 
 // The number of disk lines that fit, what they serve, and the cursor behind them.
@@ -15,38 +16,38 @@ pub struct DiskLines {
 pub(crate) fn disk_lines(
     text: &[u8],
     start: Cursor,
-    rack: Rack,
+    rack: &[u64],
     copies: &mut [u64],
     counts: &mut [u32],
 ) -> DiskLines
-    requires { ⌜ DisksReady start rack (now copies) (now counts) ⌝ }
-    ensures { λ r. ⌜ DisksRead (now (text .entry)) start rack (now (copies .entry)) (now (counts .entry))
+    requires { ⌜ DisksReady start (disksIn (now rack)) (now copies) (now counts) ⌝ }
+    ensures { λ r. ⌜ DisksRead (now (text .entry)) start (disksIn (now (rack .entry))) (now (copies .entry)) (now (counts .entry))
         (now (copies .exit)) (now (counts .exit)) r ⌝ }
 {
     let mut here = start;
     let mut served = 0u64;
     let mut from = 0usize;
-    let mut disk = 0u32;
-    while disk < rack.disks {
-        let to = from + rack.slots.0 as usize;
+    let mut disk = 0usize;
+    while disk < rack.len() {
+        let to = from + disk_slots(rack[disk]).0 as usize;
         let part = &mut copies[from..to];
-        let line = disk_line(text, here, disk + 1, rack.slots, rack.streams, part);
+        let line = disk_line(text, here, disk as u32 + 1, rack[disk], part);
         let after = line.after;
         if !after.fits {
             return DiskLines {
-                lines: disk,
+                lines: disk as u32,
                 served,
                 after,
             };
         }
-        counts[disk as usize] = line.count as u32;
+        counts[disk] = line.count as u32;
         served += line.sum;
         here = after;
         from = to;
         disk += 1;
     }
     DiskLines {
-        lines: disk,
+        lines: disk as u32,
         served,
         after: here,
     }

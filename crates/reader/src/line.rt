@@ -1,4 +1,4 @@
-// The lines of a text: rack, disk, left and served.
+// The lines of a text: the rack of equal disks, disk, left and served.
 use crate::cursor::Cursor;
 use crate::cursor::eat;
 use crate::cursor::eat_all;
@@ -9,12 +9,14 @@ use crate::pairs::read_pairs;
 use placement::Rack;
 use placement::Slots;
 use placement::Streams;
+use placement::disk_slots;
+use placement::disk_streams;
 ghost use mathlib.Core.Path.{_≡_};
 ghost use mathlib.Core.Bool.{true};
 ghost use lib.ListN.{length};
 ghost use Rattle.plan_text.specs.Parse.{next, literal};
 ghost use Rattle.plan_text.specs.Capped.{saturated};
-ghost use Rattle.placement.specs.Rack.{disk};
+ghost use Rattle.placement.specs.Packed.{diskIn};
 ghost use Rattle.placement.specs.Plan.{diskAccepted, leftAccepted, mostLeft};
 ghost use Rattle.plan_text.specs.Text.{diskHead, leftHead, servedLine};
 ghost use Rattle.plan_text.specs.Reading.{line, rackBody, sizesAccepted};
@@ -35,7 +37,7 @@ pub struct PairsLine {
 }
 
 // The cursor behind a line feed, stopped where the test of the line fails.
-fn end_line(text: &[u8], cursor: Cursor, test: bool) -> Cursor
+pub(crate) fn end_line(text: &[u8], cursor: Cursor, test: bool) -> Cursor
     ensures { λ r. ⌜ place (now (text .entry)) r ≡ next (place (now (text .entry)) cursor) (λ u t. lineEnd test t) ⌝ }
 {
     let ended = eat(text, cursor, b'\n');
@@ -63,7 +65,7 @@ fn read_rack(text: &[u8], cursor: Cursor) -> RackLine
     }
 }
 
-// The rack's line.
+// The line of a rack of equal disks.
 pub(crate) fn rack_line(text: &[u8], cursor: Cursor) -> RackLine
     ensures { λ r. ⌜ sizesOf (now (text .entry)) r ≡ next (place (now (text .entry)) cursor) (λ u t. line (rackBody saturated) sizesAccepted t) ⌝ }
 {
@@ -73,17 +75,16 @@ pub(crate) fn rack_line(text: &[u8], cursor: Cursor) -> RackLine
     RackLine { rack, after }
 }
 
-// A disk's line; its pairs are stored in the disk's places.
+// A packed disk's line; its pairs are stored in the disk's places.
 pub(crate) fn disk_line(
     text: &[u8],
     cursor: Cursor,
     number: u32,
-    slots: Slots,
-    streams: Streams,
+    disk: u64,
     copies: &mut [u64],
 ) -> PairsLine
-    requires { ⌜ length (now copies) ≡ slots .0 ⌝ }
-    ensures { λ r. ⌜ LineRead (diskHead number) (diskAccepted (disk (slots .0) (streams .0))) (now (text .entry)) cursor
+    requires { ⌜ length (now copies) ≡ diskIn «disk» .slots ⌝ }
+    ensures { λ r. ⌜ LineRead (diskHead number) (diskAccepted (diskIn «disk»)) (now (text .entry)) cursor
         (now (copies .entry)) (now (copies .exit)) r ⌝ }
 {
     let opened = eat_all(text, cursor, b"(disk ");
@@ -91,6 +92,8 @@ pub(crate) fn disk_line(
     let pairs = read_pairs(text, headed, copies);
     let count = pairs.count;
     let sum = well_formed::total(&copies[..count]);
+    let slots = disk_slots(disk);
+    let streams = disk_streams(disk);
     let storable = well_formed::disk_accepted(slots, streams, &copies[..count]);
     let after = end_line(text, pairs.after, storable);
     PairsLine { count, sum, after }

@@ -1,15 +1,15 @@
 // Storing the plan that some tables hold in others.
-use crate::answer::PlanRead;
 ghost use mathlib.Core.Path.{_≡_};
 ghost use mathlib.Core.Bool.{true};
-ghost use Prim.Native.Nat.{_≤_};
+ghost use Prim.Native.Nat.{_*_, _≤_};
 ghost use lib.ListN.{length};
-ghost use Rattle.placement.specs.Rack.{disksOf};
+ghost use Rattle.placement.specs.Rack.{allSlots, mostDisks, mostSlots};
+ghost use Rattle.placement.specs.Packed.{disksIn};
 ghost use Rattle.placement.specs.Tables.{tables, roomFor};
 ghost use Rattle.reader.specs.Stored.{frontCopied, frontsCopied};
 
 // The first n entries of a table, stored in the first n places of another.
-fn copy_entries(from: &[u64], n: usize, to: &mut [u64])
+pub(crate) fn copy_entries(from: &[u64], n: usize, to: &mut [u64])
     requires { ⌜ (n ≤ length (now from)) × (n ≤ length (now to)) ⌝ }
     ensures { λ r. ⌜ now (to .exit) ≡ frontCopied n (now (from .entry)) (now (to .entry)) ⌝ }
 {
@@ -32,9 +32,10 @@ fn copy_counts(from: &[u32], n: usize, to: &mut [u32])
     }
 }
 
-// The plan's places of some tables, stored in others.
+// The places of a rack's plan and of so many left films, stored in other tables.
 pub(crate) fn store(
-    plan: PlanRead,
+    rack: &[u64],
+    films: usize,
     copies: &[u64],
     counts: &[u32],
     left: &[u64],
@@ -42,14 +43,14 @@ pub(crate) fn store(
     tocounts: &mut [u32],
     toleft: &mut [u64],
 )
-    requires { ⌜ (roomFor (disksOf (plan .rack)) (plan .left) (tables (now copies) (now counts) (now left)) ≡ true)
-        × (roomFor (disksOf (plan .rack)) (plan .left) (tables (now tocopies) (now tocounts) (now toleft)) ≡ true) ⌝ }
+    requires { ⌜ (allSlots (disksIn (now rack)) ≤ mostDisks * mostSlots)
+        × (roomFor (disksIn (now rack)) films (tables (now copies) (now counts) (now left)) ≡ true)
+        × (roomFor (disksIn (now rack)) films (tables (now tocopies) (now tocounts) (now toleft)) ≡ true) ⌝ }
     ensures { λ r. ⌜ tables (now (tocopies .exit)) (now (tocounts .exit)) (now (toleft .exit))
-        ≡ frontsCopied (disksOf (plan .rack)) (plan .left) (tables (now (copies .entry)) (now (counts .entry)) (now (left .entry)))
+        ≡ frontsCopied (disksIn (now (rack .entry))) films (tables (now (copies .entry)) (now (counts .entry)) (now (left .entry)))
         (tables (now (tocopies .entry)) (now (tocounts .entry)) (now (toleft .entry))) ⌝ }
 {
-    let disks = plan.rack.disks as usize;
-    copy_entries(copies, disks * plan.rack.slots.0 as usize, tocopies);
-    copy_counts(counts, disks, tocounts);
-    copy_entries(left, plan.left as usize, toleft);
+    copy_entries(copies, placement::all_slots(rack), tocopies);
+    copy_counts(counts, rack.len(), tocounts);
+    copy_entries(left, films, toleft);
 }

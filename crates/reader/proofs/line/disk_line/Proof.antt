@@ -1,15 +1,18 @@
 -- `reader::line::disk_line` meets its contract: the head, the pairs, and the end of the line with the test of the copies.
 use borrow.Author.Needs.{needs}
-use mathlib.Core.Path.{sym}
-use Prim.Native.Nat.{_≤_}
+use mathlib.Core.Path.{sym, ap₂, _∙_}
+use Prim.Native.Nat.{ℕ, _≤_}
 use native.Mathlib.Omega.{arith}
 use lib.ListN.{length}
 use lib.Seq.{length-take-le}
 use Rattle.placement.specs.Rack.{disk}
 use Rattle.placement.specs.Plan.{diskAccepted}
+use Rattle.placement.specs.Packed.{diskIn}
+use Rattle.placement.specs.Held.{front}
 use Rattle.plan_text.specs.Text.{diskHead}
 use Rattle.reader.specs.Cursor.{place}
-use Rattle.reader.proofs.Lines.{disk-head, pairs-line}
+use Rattle.reader.proofs.Lines.{disk-head}
+use Rattle.reader.proofs.PairLines.{pairs-line}
 use Rattle.reader.proofs.line.disk_line.Statement.{statement}
 use Rattle.reader.proofs.line.disk_line.Tie as tie
 
@@ -20,25 +23,31 @@ slice-aggregate-total c =
 
 slice-aggregate-disk-accepted : tie.Need-slice-aggregate-disk-accepted
 slice-aggregate-disk-accepted c =
-    let found = c .before .before .before .before .before .read-pairs in
+    let found = c .before .before .before .before .before .before .before .read-pairs in
     sym (length-take-le (found .result .count) (found .last .1 .1 .0) (omega (arith, found .ensures .stored .few, found .kept .1 .1 .0)))
 
 returns : tie.Need-returns
 returns c =
-    let at-total = c .before .before .before in
+    let at-streams = c .before .before .before in
+    let at-slots = at-streams .before in
+    let at-total = at-slots .before in
     let at-pairs = at-total .before .before .before .before in
     let at-head = at-pairs .before .before in
     let at-start = at-head .before .before .before .before .before in
     let a = at-start .args in
     let text = a .text .now in
     let found = at-pairs .read-pairs in
-    let few : length (found .last .1 .1 .0) ≤ 4294967296 = omega (arith, found .kept .1 .1 .0, at-start .pre, at-start .good) in
-    pairs-line (diskHead (a .number)) (diskAccepted (disk (a .slots .0) (a .streams .0))) text (a .cursor)
+    let few : length (found .last .1 .1 .0) ≤ 4294967296 = omega (arith, found .kept .1 .1 .0, at-start .pre) in
+    pairs-line (diskHead (a .number)) (diskAccepted (diskIn (a .disk))) text (a .cursor)
     (at-head .eat-number .result) (c .end-line .result) (a .copies .now) (found .last .1 .1 .0) (found .result)
     (c .before .disk-accepted .result) (at-total .total .result)
     (disk-head (a .number) (place text (at-head .eat-number .result)) (place text (at-head .before .eat-all .result))
     (place text (a .cursor)) (at-head .before .eat-all .ensures) (at-head .eat-number .ensures))
-    (found .ensures) (c .before .disk-accepted .ensures) (c .end-line .ensures) (at-total .total .ensures) few
+    (found .ensures)
+    (c .before .disk-accepted .ensures
+    ∙ ap₂ (λ (k l : ℕ). diskAccepted (disk k l) (front (found .result .count) (found .last .1 .1 .0))) (at-slots .disk-slots .ensures)
+    (at-streams .disk-streams .ensures))
+    (c .end-line .ensures) (at-total .total .ensures) few
 
 pub disk-line-spec : {M : Type 1} → statement M
 disk-line-spec =
@@ -50,6 +59,8 @@ disk-line-spec =
     (λ c κs. search needs)
     (λ c. search needs)
     slice-aggregate-total
+    (λ c κs. search needs)
+    (λ c κs. search needs)
     (λ c κs. search needs)
     (λ c. search needs)
     slice-aggregate-disk-accepted

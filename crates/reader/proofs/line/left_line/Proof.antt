@@ -7,7 +7,7 @@ use lib.ListN.{length}
 use lib.Seq.{length-take-le}
 use Rattle.placement.specs.Plan.{leftAccepted}
 use Rattle.plan_text.specs.Text.{leftHead}
-use Rattle.reader.proofs.Lines.{pairs-line}
+use Rattle.reader.proofs.PairLines.{pairs-line}
 use Rattle.reader.proofs.line.left_line.Statement.{statement}
 use Rattle.reader.proofs.line.left_line.Tie as tie
 

@@ -5,7 +5,6 @@ use mathlib.Core.Bool.{Bool}
 use Rattle.plan_text.specs.Parse.{next}
 use Rattle.plan_text.specs.Reading.{rackBody, sizesAccepted}
 use Rattle.plan_text.specs.Capped.{saturated}
-use Rattle.placement.proofs.Racks.{rack-accepted}
 use Rattle.reader.specs.Cursor.{place}
 use Rattle.reader.specs.Line.{sizes, lineEnd}
 use Rattle.reader.proofs.Lines.{line-read}
@@ -22,7 +21,7 @@ returns c =
     (place (a .text .now) (body .result .after)) (place (a .text .now) (a .cursor)) (body .ensures)
     (c .end-line .ensures
     ∙ ap (λ (b : Bool). next (place (a .text .now) (body .result .after)) (λ u t. lineEnd b t))
-    (c .before .accepted .ensures ∙ rack-accepted (rack .disks) (rack .slots .0) (rack .streams .0)))
+    (c .before .accepted .ensures))
 
 pub rack-line-spec : {M : Type 1} → statement M
 rack-line-spec =
