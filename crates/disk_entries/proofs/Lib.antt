@@ -1,0 +1,4 @@
+pub mod Lists
+pub mod Held
+pub mod Numbers
+pub mod Answered
