@@ -9,30 +9,45 @@ use lib.Dec.{leb, eqb}
 use lib.ListN.{length, take, length-take, length-drop}
 use lib.Seq.{getD-take, take-length}
 use Rattle.refusal.specs.Verdict.{refused, unless}
-use Rattle.placement.specs.Rack.{Disk, rackOf, rackAccepted, mostRecords}
+use Rattle.placement.specs.Rack.{sizesInRange, rackAccepted, mostRecords}
 use Rattle.placement.specs.Records.{number32, recordCount}
 use Rattle.placement.specs.Planning.{Call}
 use Rattle.placement.proofs.Conjunctions.{cond-true, cond-false}
-use Rattle.placement.proofs.Tests.{by-order}
+use Rattle.placement.proofs.Tests.{by-test, by-order}
+use Rattle.placement.proofs.Racks.{rack-accepted}
+use Rattle.placement.proofs.Chains.{rack-passes}
 use Rattle.plan_text.specs.RefusalLine.{refusalText}
-use Rattle.plan_output.specs.Input.{headBytes, callIn, mostKept, kept}
+use Rattle.plan_output.specs.Input.{headBytes, sizesIn, callIn, mostKept, kept}
 use Rattle.plan_output.specs.KeepPromise.{KeepPromise}
-use Rattle.plan_output.specs.Output.{printed, printedFor, outputOf}
-use Rattle.plan_output.proofs.Inputs.{long-output}
+use Rattle.plan_output.specs.Output.{printed, printedFor, sizedOutput, outputOf}
+use Rattle.plan_output.proofs.Inputs.{sized-output}
 
--- What is printed for a list of too many records: it depends on its rack and its odd bytes alone.
-abbrev longText : List Disk → ℕ → List ℕ
-longText rack odd = cond (rackAccepted rack) (cond (eqb odd 0) (refusalText 3 0) (refusalText 2 0)) (refusalText 1 0)
+-- What is printed for a list of too many records: it depends on N, k and L and on its odd bytes alone.
+abbrev shapeText : ℕ → List ℕ
+shapeText odd = cond (eqb odd 0) (refusalText 3 0) (refusalText 2 0)
 
-long-printed : (c : Call) → mostRecords < recordCount (c .list) → printedFor c ≡ longText (c .rack) (length (c .list) % 8)
-long-printed c more =
-    rw (lt-leb (recordCount (c .list)) mostRecords more) (go (rackAccepted (c .rack)) (eqb (length (c .list) % 8) 0))
+abbrev longText : Bool → ℕ → List ℕ
+longText sizes odd = cond sizes (shapeText odd) (refusalText 1 0)
+
+long-printed : (c : Call) → rackAccepted (c .rack) ≡ true → mostRecords < recordCount (c .list) → printedFor c ≡ shapeText (length (c .list) % 8)
+long-printed c accepted more =
+    ap (printed c) (rack-passes (c .rack) _ accepted)
+    ∙ rw (lt-leb (recordCount (c .list)) mostRecords more) (go (eqb (length (c .list) % 8) 0))
   where
-    go : (rack whole : Bool) → printed c (unless rack 1 0 (unless whole 2 0 (refused 3 0)))
-        ≡ cond rack (cond whole (refusalText 3 0) (refusalText 2 0)) (refusalText 1 0)
-    go true true = refl
-    go true false = refl
-    go false whole = refl
+    go : (whole : Bool) → printed c (unless whole 2 0 (refused 3 0)) ≡ cond whole (refusalText 3 0) (refusalText 2 0)
+    go true = refl
+    go false = refl
+
+long-sized : (input : List ℕ) → mostRecords < recordCount (callIn input .list) → sizedOutput input ≡ longText (sizesIn input) (length (callIn input .list) % 8)
+long-sized input more =
+    by-test (sizesIn input)
+    (λ inside.
+    cond-true (sizesIn input) (printedFor (callIn input)) (refusalText 1 0) inside
+    ∙ long-printed (callIn input) (rack-accepted (number32 input 0) (number32 input 4) (number32 input 8) ∙ inside) more
+    ∙ sym (cond-true (sizesIn input) (shapeText (length (callIn input .list) % 8)) (refusalText 1 0) inside))
+    (λ outside.
+    cond-false (sizesIn input) (printedFor (callIn input)) (refusalText 1 0) outside
+    ∙ sym (cond-false (sizesIn input) (shapeText (length (callIn input .list) % 8)) (refusalText 1 0) outside))
 
 -- A number of the head is in the kept part.
 number32-take : (m i : ℕ) (input : List ℕ) → i + 3 < m → number32 (take m input) i ≡ number32 input i
@@ -62,21 +77,21 @@ module _ (input : List ℕ) (long : mostKept < length input) where
   same-number : (i : ℕ) → i ≤ 8 → number32 part i ≡ number32 input i
   same-number i head = number32-take (kept (length input)) i input (omega (arith, kept-long (length input) long))
 
-  same-rack : callIn part .rack ≡ callIn input .rack
-  same-rack =
-      ap₂ (λ (n k : ℕ). rackOf n k (number32 part 8)) (same-number 0 (omega arith)) (same-number 4 (omega arith))
-      ∙ ap (λ (l : ℕ). rackOf (number32 input 0) (number32 input 4) l) (same-number 8 (omega arith))
+  same-sizes : sizesIn part ≡ sizesIn input
+  same-sizes =
+      ap₂ (λ (n k : ℕ). sizesInRange n k (number32 part 8)) (same-number 0 (omega arith)) (same-number 4 (omega arith))
+      ∙ ap (λ (l : ℕ). sizesInRange (number32 input 0) (number32 input 4) l) (same-number 8 (omega arith))
 
   same-odd : length (callIn part .list) % 8 ≡ length (callIn input .list) % 8
   same-odd = omega (arith, length-drop headBytes part, length-drop headBytes input, part-length)
 
   same-output : outputOf part ≡ outputOf input
   same-output =
-      long-output part (omega (arith, part-length))
-      ∙ long-printed (callIn part) (omega (arith, length-drop headBytes part, part-length))
-      ∙ ap₂ longText same-rack same-odd
-      ∙ sym (long-printed (callIn input) (omega (arith, length-drop headBytes input)))
-      ∙ sym (long-output input (omega arith))
+      sized-output part (omega (arith, part-length))
+      ∙ long-sized part (omega (arith, length-drop headBytes part, part-length))
+      ∙ ap₂ longText same-sizes same-odd
+      ∙ sym (long-sized input (omega (arith, length-drop headBytes input)))
+      ∙ sym (sized-output input (omega arith))
 
 -- The program prints for the kept part what it prints for the whole input.
 pub kept-output : (input : List ℕ) → outputOf (take (kept (length input)) input) ≡ outputOf input

@@ -1,6 +1,6 @@
 -- The promise of the whole output, from what was shown for a short input and for a call.
 use mathlib.Core.Path.{_≡_, sym, ap, ap₂, subst, _∙_}
-use mathlib.Core.Bool.{true}
+use mathlib.Core.Bool.{true, false}
 use mathlib.Core.List.{List}
 use Prim.Native.Nat.{ℕ, _≤_, _<_}
 use native.Mathlib.Omega.{arith}
@@ -8,17 +8,20 @@ use borrow.Author.Tests.{le-leb, lt-leb}
 use lib.Dec.{leb}
 use lib.ListN.{length, take, drop, length-append}
 use lib.Seq.{take-append-seam}
+use Rattle.placement.specs.Rack.{allEqual}
+use Rattle.placement.specs.Records.{number32}
 use Rattle.placement.specs.Tables.{written}
 use Rattle.placement.specs.Planning.{Call}
 use Rattle.placement.proofs.Conjunctions.{cond-true, cond-false}
 use Rattle.placement.proofs.Tests.{by-order}
+use Rattle.placement.proofs.Racks.{rack-equal}
 use Rattle.plan_text.specs.RefusalLine.{refusalText}
 use Rattle.writer.specs.RefusalPromise.{RefusalPromise}
-use Rattle.plan_output.specs.Input.{headBytes, callIn}
+use Rattle.plan_output.specs.Input.{headBytes, sizesIn, callIn}
 use Rattle.plan_output.specs.Output.{printedFor, outputOf}
 use Rattle.plan_output.specs.OutputPromise.{OutputPromise, mostOutput}
 use Rattle.writer.specs.Shown.{Shown}
-use Rattle.plan_output.proofs.Inputs.{short-output, long-output}
+use Rattle.plan_output.proofs.Inputs.{short-output, sizes-output, long-output}
 use Rattle.plan_output.proofs.Small.{refusal-short, refusal-some, printed-short, printed-some}
 
 module _ {text entry exit : List ℕ} {answer : ℕ} (shown : Shown text entry exit answer) where
@@ -73,14 +76,25 @@ module _ {input entry exit : List ℕ} {answer : ℕ} where
       (omega (arith, refusal-some 2 0, ap length (short-output input short)))
       (shown-as shown (sym (short-output input short)))
 
-  -- What is shown for the call of a longer one does.
+  -- So does that of a longer one with N, k or L outside its range,
+  pub sizes-promise :
+      headBytes ≤ length input → sizesIn input ≡ false → Shown (refusalText 1 0) entry exit answer → OutputPromise input entry exit answer
+  sizes-promise long outside shown =
+      promised (omega (arith, refusal-short 1 0 (omega arith) (omega arith), ap length (sizes-output input long outside)))
+      (omega (arith, refusal-some 1 0, ap length (sizes-output input long outside)))
+      (shown-as shown (sym (sizes-output input long outside)))
+
+  -- and what is shown for the call of any other.
   pub long-promise :
-      {c : Call} → c ≡ callIn input → headBytes ≤ length input → Shown (printedFor c) entry exit answer
+      {c : Call} → c ≡ callIn input → headBytes ≤ length input → sizesIn input ≡ true → Shown (printedFor c) entry exit answer
       → OutputPromise input entry exit answer
-  long-promise same long shown =
-      promised (omega (arith, printed-short (callIn input), ap length (long-output input long)))
-      (omega (arith, printed-some (callIn input), ap length (long-output input long)))
-      (shown-as shown (ap printedFor same ∙ sym (long-output input long)))
+  long-promise same long inside shown =
+      promised (omega (arith, printed-short (callIn input) equal, ap length (long-output input long inside)))
+      (omega (arith, printed-some (callIn input), ap length (long-output input long inside)))
+      (shown-as shown (ap printedFor same ∙ sym (long-output input long inside)))
+    where
+      equal : allEqual (callIn input .rack) ≡ true
+      equal = rack-equal (number32 input 0) (number32 input 4) (number32 input 8)
 
   module _ (promise : OutputPromise input entry exit answer) where
     all : Shown (outputOf input) entry exit answer

@@ -1,16 +1,20 @@
 -- The input of the program `plan`: three numbers and the records, and how much of a long input stands for the whole.
 use Prim.Native.Nat.{ℕ, _+_, _-_, _%_}
-use mathlib.Core.Bool.{cond}
+use mathlib.Core.Bool.{Bool, cond}
 use mathlib.Core.List.{List}
 use lib.Dec.{leb}
 use lib.ListN.{drop}
-use Rattle.placement.specs.Rack.{rackOf}
+use Rattle.placement.specs.Rack.{rackOf, sizesInRange}
 use Rattle.placement.specs.Records.{number32}
 use Rattle.placement.specs.Planning.{Call, call}
 
 -- N, k and L take 12 bytes.
 abbrev pub headBytes : ℕ
 headBytes = 12
+
+-- N, k and L are in range.
+abbrev pub sizesIn : List ℕ → Bool
+sizesIn input = sizesInRange (number32 input 0) (number32 input 4) (number32 input 8)
 
 -- "Standard input: N, k, L as three 32-bit numbers, least significant byte first, then the records."
 abbrev pub callIn : List ℕ → Call

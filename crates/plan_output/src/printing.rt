@@ -3,13 +3,17 @@ use demand_list::number32;
 use placement::Rack;
 use placement::Slots;
 use placement::Streams;
+use placement::accepted;
+use placement::disk_of;
 use planner::Answer;
 use refusal::Refusal;
 use writer::Written;
 use writer::write_refusal;
 ghost use mathlib.Core.Path.{_≡_};
+ghost use mathlib.Core.Bool.{true};
 ghost use Rattle.refusal.specs.Numbers.{numberOf, secondOf};
-ghost use Rattle.placement.specs.Rack.{disksOf};
+ghost use Rattle.placement.specs.Rack.{disksOf, sizesInRange};
+ghost use Rattle.placement.specs.Packed.{disksIn};
 ghost use Rattle.placement.specs.Tables.{tables, ownTables};
 ghost use Rattle.placement.specs.Planning.{call};
 ghost use Rattle.plan_text.specs.RefusalLine.{refusalText};
@@ -42,7 +46,7 @@ fn length_of(written: Written) -> usize
 
 // Plans into tables that are all zero, and writes the text of the plan or the line of the refusal.
 fn print_with(
-    rack: Rack,
+    rack: &[u64],
     list: &[u8],
     copies: &mut [u64],
     counts: &mut [u32],
@@ -50,7 +54,7 @@ fn print_with(
     text: &mut [u8],
 ) -> usize
     requires { ⌜ tables (now copies) (now counts) (now left) ≡ ownTables ⌝ }
-    ensures { λ r. ⌜ Shown (printedFor (call (disksOf rack) (now (list .entry)))) (now (text .entry)) (now (text .exit)) r ⌝ }
+    ensures { λ r. ⌜ Shown (printedFor (call (disksIn (now (rack .entry))) (now (list .entry)))) (now (text .entry)) (now (text .exit)) r ⌝ }
 {
     match planner::plan(rack, list, copies, counts, left) {
         Answer::Planned {
@@ -62,14 +66,25 @@ fn print_with(
     }
 }
 
-// The same, with tables made for it: room for the largest rack and the longest list.
+// The same for N equal disks, with tables made for it: room for the largest rack and the longest list.
 fn print_call(rack: Rack, list: &[u8], text: &mut [u8]) -> usize
+    requires { ⌜ sizesInRange (rack .disks) (rack .slots .0) (rack .streams .0) ≡ true ⌝ }
     ensures { λ r. ⌜ Shown (printedFor (call (disksOf rack) (now (list .entry)))) (now (text .entry)) (now (text .exit)) r ⌝ }
 {
+    let disks = rack.disks as usize;
+    let disk = disk_of(rack.slots, rack.streams);
+    let entries = [disk; 64];
     let mut copies = [0u64; 2048];
     let mut counts = [0u32; 64];
     let mut left = [0u64; 1024];
-    print_with(rack, list, &mut copies, &mut counts, &mut left, text)
+    print_with(
+        &entries[..disks],
+        list,
+        &mut copies,
+        &mut counts,
+        &mut left,
+        text,
+    )
 }
 
 // Writes what `plan` prints for this input, and answers how many bytes that is, or 0 where the space is too short.
@@ -84,5 +99,8 @@ pub fn output(input: &[u8], text: &mut [u8]) -> usize
         slots: Slots(number32(input, 4)),
         streams: Streams(number32(input, 8)),
     };
+    if !accepted(rack) {
+        return refuse(Refusal::RackOutOfRange, text);
+    }
     print_call(rack, &input[HEAD..], text)
 }

@@ -1,5 +1,5 @@
 -- `printing::print_with` shows what is printed for the call, whether planning refuses or not.
-use Rattle.placement.specs.Rack.{disksOf}
+use Rattle.placement.specs.Packed.{disksIn}
 use Rattle.placement.specs.Tables.{Tables, tables}
 use Rattle.placement.specs.Planning.{Call, call}
 use Rattle.plan_output.proofs.Answers.{refused-printed}
@@ -10,11 +10,11 @@ use Rattle.plan_output.proofs.printing.print_with.Statement.{statement}
 use Rattle.plan_output.proofs.printing.print_with.Tie as tie
 
 abbrev start : tie.After-plan → tie.Start
-start c = c .before .before .before .before .before .before .before .before .before
+start c = c .before .before .before .before .before .before .before .before .before .before
 
 -- The call that is planned.
 abbrev asked : tie.After-plan → Call
-asked c = call (disksOf (start c .args .rack)) (start c .args .list .now)
+asked c = call (disksIn (start c .args .rack .now)) (start c .args .list .now)
 
 -- The tables that planning leaves.
 abbrev held : tie.After-plan → Tables
