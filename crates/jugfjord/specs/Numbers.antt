@@ -21,5 +21,5 @@ abbrev pub readFields : ReadPlan → Numbers Told
 readFields r = record {
   refusal = r .number;
   second = r .second;
-  values = told (r .disks) (r .slots) (r .streams) (r .served) (r .unserved) (r .left);
+  values = told (r .disks) (r .served) (r .unserved) (r .left);
 }

@@ -1,14 +1,15 @@
 // Planning for C.
-use placement::Rack;
-use placement::Slots;
-use placement::Streams;
+use disk_entries::DiskEntry;
+use disk_entries::PackedDisks;
+use disk_entries::held_count;
+use disk_entries::pack;
 use planner::Answer;
 use refusal::Refusal;
 ghost use mathlib.Core.Path.{_≡_};
-ghost use Rattle.placement.specs.Rack.{rackOf};
 ghost use Rattle.placement.specs.Tables.{tables};
 ghost use Rattle.placement.specs.Planning.{call};
 ghost use Rattle.placement.specs.PlanPromise.{PlanPromise};
+ghost use Rattle.disk_entries.specs.Entries.{disksOfEntries, heldDisks};
 ghost use Rattle.planner.specs.Answers.{planNumbers};
 ghost use Rattle.planner.specs.declared.answer.Answer.the-variants.{Refused};
 ghost use Rattle.jugfjord.specs.Numbers.{plannedFields};
@@ -58,27 +59,39 @@ fn planned_numbers(answer: Answer) -> Planned
     }
 }
 
-// `planner::plan` with plain numbers.
-#[no_mangle]
-pub extern "C" fn jugfjord_plan(
-    disks: u32,
-    slots: u32,
-    streams: u32,
+// Planning with packed disks.
+fn plan_packed(
+    rack: PackedDisks,
     list: &[u8],
     copies: &mut [u64],
     counts: &mut [u32],
     left: &mut [u64],
 ) -> Planned
     ensures { λ r. ⌜ PlanPromise
-        (call (rackOf disks slots streams) (now (list .entry)))
+        (call (heldDisks rack) (now (list .entry)))
         (tables (now (copies .entry)) (now (counts .entry)) (now (left .entry)))
         (tables (now (copies .exit)) (now (counts .exit)) (now (left .exit)))
         (plannedFields r) ⌝ }
 {
-    let rack = Rack {
-        disks,
-        slots: Slots(slots),
-        streams: Streams(streams),
-    };
-    planned_numbers(planner::plan(rack, list, copies, counts, left))
+    let count = held_count(rack);
+    let disks = rack.disks;
+    planned_numbers(planner::plan(&disks[..count], list, copies, counts, left))
+}
+
+// `planner::plan` with lent entries. Proved by a walk.
+#[no_mangle]
+pub extern "C" fn jugfjord_plan(
+    rack: &[DiskEntry],
+    list: &[u8],
+    copies: &mut [u64],
+    counts: &mut [u32],
+    left: &mut [u64],
+) -> Planned
+    ensures { λ r. ⌜ PlanPromise
+        (call (disksOfEntries (now (rack .entry))) (now (list .entry)))
+        (tables (now (copies .entry)) (now (counts .entry)) (now (left .entry)))
+        (tables (now (copies .exit)) (now (counts .exit)) (now (left .exit)))
+        (plannedFields r) ⌝ }
+{
+    plan_packed(pack(rack), list, copies, counts, left)
 }

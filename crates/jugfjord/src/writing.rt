@@ -1,13 +1,14 @@
 // Writing for C.
-use placement::Rack;
-use placement::Slots;
-use placement::Streams;
+use disk_entries::DiskEntry;
+use disk_entries::PackedDisks;
+use disk_entries::held_count;
+use disk_entries::pack;
 use refusal::Refusal;
 use writer::Written;
 ghost use mathlib.Core.Path.{_≡_};
-ghost use Rattle.placement.specs.Rack.{rackOf};
 ghost use Rattle.placement.specs.Tables.{tables};
 ghost use Rattle.plan_text.specs.WriteCall.{writeCall};
+ghost use Rattle.disk_entries.specs.Entries.{disksOfEntries, heldDisks};
 ghost use Rattle.writer.specs.Answers.{writtenNumbers};
 ghost use Rattle.writer.specs.WritePromise.{WritePromise};
 ghost use Rattle.writer.specs.declared.answer.Written.the-variants.{Refused};
@@ -48,12 +49,9 @@ fn written_numbers(answer: Written) -> WrittenNumbers
     }
 }
 
-// `writer::write` with plain numbers.
-#[no_mangle]
-pub extern "C" fn jugfjord_write(
-    disks: u32,
-    slots: u32,
-    streams: u32,
+// Writing with packed disks.
+fn write_packed(
+    rack: PackedDisks,
     copies: &[u64],
     counts: &[u32],
     left: &[u64],
@@ -61,13 +59,27 @@ pub extern "C" fn jugfjord_write(
     text: &mut [u8],
 ) -> WrittenNumbers
     ensures { λ r. ⌜ WritePromise
-        (writeCall (rackOf disks slots streams) (tables (now (copies .entry)) (now (counts .entry)) (now (left .entry))) «left_films»)
+        (writeCall (heldDisks rack) (tables (now (copies .entry)) (now (counts .entry)) (now (left .entry))) «left_films»)
         (now (text .entry)) (now (text .exit)) (writtenFields r) ⌝ }
 {
-    let rack = Rack {
-        disks,
-        slots: Slots(slots),
-        streams: Streams(streams),
-    };
-    written_numbers(writer::write(rack, copies, counts, left, left_films, text))
+    let count = held_count(rack);
+    let disks = rack.disks;
+    written_numbers(writer::write(&disks[..count], copies, counts, left, left_films, text))
+}
+
+// `writer::write` with lent entries. Proved by a walk.
+#[no_mangle]
+pub extern "C" fn jugfjord_write(
+    rack: &[DiskEntry],
+    copies: &[u64],
+    counts: &[u32],
+    left: &[u64],
+    left_films: u32,
+    text: &mut [u8],
+) -> WrittenNumbers
+    ensures { λ r. ⌜ WritePromise
+        (writeCall (disksOfEntries (now (rack .entry))) (tables (now (copies .entry)) (now (counts .entry)) (now (left .entry))) «left_films»)
+        (now (text .entry)) (now (text .exit)) (writtenFields r) ⌝ }
+{
+    write_packed(pack(rack), copies, counts, left, left_films, text)
 }
