@@ -11,12 +11,17 @@
  * - a pointer whose count is 1 or more is not NULL, is aligned for its type and is valid for its count: that many bytes or
  *   numbers can be read there, and written where it is not const;
  * - what one call is lent does not overlap, except that two const arguments may; no other thread writes to it during the call.
- * A pointer whose count is 0 may be NULL: nothing is read or written through it. NULL with 0 is an empty list, an empty text
- * or a table without places.
+ * A pointer whose count is 0 may be NULL: nothing is read or written through it. NULL with 0 is an empty list, an empty text,
+ * a rack without disks or a table without places.
+ *
+ * Racks: `rack` has one entry a disk, that of disk 1 first, with the disk's slots and streams. Disks may be large and small,
+ * but all have one ratio of streams to slots. `jugfjord_equal_rack` makes the entries of a rack of equal disks. Planning fills
+ * the disks by ascending slots, equal ones by number.
  *
  * Tables: `copies` is the copy table, `left` the left table. An entry of either is one number, the film in its low 32 bits and
- * the viewers or the amount in its high 32 bits. `counts` has the number of copies of each disk. Disk d (from 1) has its copies
- * from place (d - 1) * slots on. Planning and reading set the unused copy places to 0, and writing asks for that.
+ * the viewers or the amount in its high 32 bits. `counts` has the number of copies of each disk. The disks stand by number,
+ * whatever their slots: disk 1 has its copies from place 0 on, and each other disk from the place after the slots of all disks
+ * before it. Planning and reading set the unused copy places to 0, and writing asks for that.
  * JUGFJORD_MOST_COPIES, JUGFJORD_MOST_DISKS and JUGFJORD_MOST_LEFT places are always enough.
  *
  * A copy with 0 viewers is a shelf copy. Planning takes the films of demand 0 in ascending number and stores each on the
@@ -38,28 +43,30 @@
 extern "C" {
 #endif
 
-#define JUGFJORD_VERSION "0.3.0"
+#define JUGFJORD_VERSION "0.4.0"
 #define JUGFJORD_VERSION_MAJOR 0
-#define JUGFJORD_VERSION_MINOR 3
+#define JUGFJORD_VERSION_MINOR 4
 #define JUGFJORD_VERSION_PATCH 0
 
-#define JUGFJORD_MOST_COPIES 2048 /* disks times slots */
+#define JUGFJORD_MOST_COPIES 2048 /* the slots of all disks */
 #define JUGFJORD_MOST_DISKS 64
 #define JUGFJORD_MOST_LEFT 1024
-#define JUGFJORD_MOST_TEXT 43885 /* bytes of the longest plan text */
+#define JUGFJORD_MOST_TEXT 44565 /* bytes of the longest plan text */
 
-/* The refusals. `second` is the record for 4, 5 and 6 and the line for 9, both from 1; it is 0 for the others. */
-#define JUGFJORD_REFUSED_RACK_OUT_OF_RANGE 1   /* disks not 1 to 64, slots not 1 to 32 or streams not 1 to 65,535 */
+/* The refusals. `second` is the record for 4, 5 and 6, the line for 9 and the disk for 13, each from 1; 0 for the others. */
+#define JUGFJORD_REFUSED_RACK_OUT_OF_RANGE 1   /* of the program `plan` alone, in the place of 12; no function here gives it */
 #define JUGFJORD_REFUSED_LIST_LENGTH 2         /* list length no multiple of 8 */
 #define JUGFJORD_REFUSED_TOO_MANY_RECORDS 3    /* more than 1,024 records */
 #define JUGFJORD_REFUSED_FILM_OUT_OF_RANGE 4   /* film number 0 or above 65,535 */
 #define JUGFJORD_REFUSED_DEMAND_OUT_OF_RANGE 5 /* demand above 1,000,000 */
 #define JUGFJORD_REFUSED_FILM_REPEATED 6       /* film seen in an earlier record */
-#define JUGFJORD_REFUSED_TABLES_TOO_SHORT 7    /* a lent table is too short */
+#define JUGFJORD_REFUSED_TABLES_TOO_SHORT 7    /* a lent table, or the rack lent to reading, is too short */
 #define JUGFJORD_REFUSED_TEXT_TOO_LONG 8       /* text of more than 65,536 bytes */
 #define JUGFJORD_REFUSED_LINE 9                /* the first line that no accepted text has after the lines before it */
 #define JUGFJORD_REFUSED_NOT_WELL_FORMED 10    /* the plan in the tables is not well formed */
 #define JUGFJORD_REFUSED_SPACE_TOO_SHORT 11    /* the space for the text is too short */
+#define JUGFJORD_REFUSED_DISKS_OUT_OF_RANGE 12 /* disks not 1 to 64, or of one slots not 1 to 32 or streams not 1 to 65,535 */
+#define JUGFJORD_REFUSED_RATIO_DIFFERS 13      /* the first disk whose ratio of streams to slots is not that of disk 1 */
 
 /* The entry of a film with its viewers or its amount. */
 static inline uint64_t jugfjord_entry(uint32_t film, uint32_t amount)
@@ -80,6 +87,21 @@ static inline uint32_t jugfjord_entry_amount(uint64_t entry)
     return jugfjord_entry_film(entry >> 32);
 }
 
+/* A disk of a rack: how many films it stores and how many viewers it serves. */
+struct jugfjord_disk {
+    uint32_t slots;
+    uint32_t streams;
+};
+
+/* Makes all entries of a rack equal, with these slots and streams. */
+static inline void jugfjord_equal_rack(struct jugfjord_disk *rack, size_t rack_count, uint32_t slots, uint32_t streams)
+{
+    for (size_t i = 0; i < rack_count; i++) {
+        rack[i].slots = slots;
+        rack[i].streams = streams;
+    }
+}
+
 struct jugfjord_planned {
     uint32_t number;
     uint32_t second;
@@ -89,9 +111,10 @@ struct jugfjord_planned {
 };
 
 /* Plans by the sliding-window method. `list` has eight bytes a record: film number, then demand, each 32 bits, least
- * significant byte first; list_count is in bytes. The tables need disks * slots copy places, `disks` counts and a left place
- * for each record. Refusals 1, 2, 3, 7, 4, 5, 6. Less than 80 KiB of stack. */
-struct jugfjord_planned jugfjord_plan(uint32_t disks, uint32_t slots, uint32_t streams,
+ * significant byte first; list_count is in bytes. The tables need a copy place for each slot of the rack, a count for each disk
+ * and a left place for each record. Refusals 12, 13 with the disk, 2, 3, 7, then record by record 4, 5, 6 with the record.
+ * Less than 80 KiB of stack. */
+struct jugfjord_planned jugfjord_plan(const struct jugfjord_disk *rack, size_t rack_count,
                                       const uint8_t *list, size_t list_count,
                                       uint64_t *copies, size_t copies_count,
                                       uint32_t *counts, size_t counts_count,
@@ -99,13 +122,13 @@ struct jugfjord_planned jugfjord_plan(uint32_t disks, uint32_t slots, uint32_t s
 
 struct jugfjord_written {
     uint32_t number;
-    uint32_t second; /* always 0 */
+    uint32_t second; /* the disk for 13 */
     uint64_t length;
 };
 
 /* Writes the plan text of the tables to the front of `text`, with no zero byte behind it; JUGFJORD_MOST_TEXT bytes are always
- * enough. `left_films` is the number of left films. Refusals 1, 7, 10, 11. Less than 4 KiB of stack. */
-struct jugfjord_written jugfjord_write(uint32_t disks, uint32_t slots, uint32_t streams,
+ * enough. `left_films` is the number of left films. Refusals 12, 13 with the disk, 7, 10, 11. Less than 4 KiB of stack. */
+struct jugfjord_written jugfjord_write(const struct jugfjord_disk *rack, size_t rack_count,
                                        const uint64_t *copies, size_t copies_count,
                                        const uint32_t *counts, size_t counts_count,
                                        const uint64_t *left, size_t left_count,
@@ -115,22 +138,23 @@ struct jugfjord_written jugfjord_write(uint32_t disks, uint32_t slots, uint32_t 
 struct jugfjord_read_plan {
     uint32_t number;
     uint32_t second;
-    uint32_t disks;
-    uint32_t slots;
-    uint32_t streams;
-    uint32_t left; /* number of left films */
+    uint32_t disks; /* entries of the rack */
+    uint32_t left;  /* number of left films */
     uint64_t served;
     uint64_t unserved;
 };
 
-/* Reads a plan text into the tables, which need disks * slots copy places, `disks` counts and a place for each left film.
- * Refusals 8, 9 with the line, 7. Less than 32 KiB of stack. */
+/* Reads a plan text into the rack and the tables. The rack needs an entry for each disk of the text; the tables need a copy
+ * place for each slot of the rack, a count for each disk and a place for each left film. Entries beyond the text's disks stay
+ * as they were. Refusals 8, 9 with the line, 7. Less than 32 KiB of stack. */
 struct jugfjord_read_plan jugfjord_read(const uint8_t *text, size_t text_count,
+                                        struct jugfjord_disk *rack, size_t rack_count,
                                         uint64_t *copies, size_t copies_count,
                                         uint32_t *counts, size_t counts_count,
                                         uint64_t *left, size_t left_count);
 
-/* Judges a text with no tables lent: the numbers that reading gives. Refusals 8, 9 with the line. Less than 32 KiB of stack. */
+/* Judges a text with no rack and no tables lent: the numbers that reading gives. Refusals 8, 9 with the line. Less than 32 KiB
+ * of stack. */
 struct jugfjord_read_plan jugfjord_judge(const uint8_t *text, size_t text_count);
 
 #ifdef __cplusplus
