@@ -1,6 +1,8 @@
 //! The C library's functions and answers, as include/jugfjord.h declares them.
 
 #[cfg(feature = "library")]
+use crate::rack::Disk;
+#[cfg(feature = "library")]
 use crate::tables::Entry;
 
 /// What planning answers. `number` is 0, or the refusal and then all else but `second` is 0.
@@ -23,15 +25,13 @@ pub struct Written {
     pub length: u64,
 }
 
-/// What reading and judging answer: the rack, the two sums and the number of left films.
+/// What reading and judging answer: the numbers of disks and of left films, and the two sums.
 #[repr(C)]
 #[derive(Clone, Copy, Debug, Default, PartialEq, Eq)]
 pub struct ReadPlan {
     pub number: u32,
     pub second: u32,
     pub disks: u32,
-    pub slots: u32,
-    pub streams: u32,
     pub left: u32,
     pub served: u64,
     pub unserved: u64,
@@ -40,9 +40,8 @@ pub struct ReadPlan {
 #[cfg(feature = "library")]
 extern "C" {
     pub(crate) fn jugfjord_plan(
-        disks: u32,
-        slots: u32,
-        streams: u32,
+        rack: *const Disk,
+        rack_count: usize,
         list: *const u8,
         list_count: usize,
         copies: *mut Entry,
@@ -54,9 +53,8 @@ extern "C" {
     ) -> Planned;
 
     pub(crate) fn jugfjord_write(
-        disks: u32,
-        slots: u32,
-        streams: u32,
+        rack: *const Disk,
+        rack_count: usize,
         copies: *const Entry,
         copies_count: usize,
         counts: *const u32,
@@ -71,6 +69,8 @@ extern "C" {
     pub(crate) fn jugfjord_read(
         text: *const u8,
         text_count: usize,
+        rack: *mut Disk,
+        rack_count: usize,
         copies: *mut Entry,
         copies_count: usize,
         counts: *mut u32,

@@ -1,4 +1,4 @@
-//! A rack, and the limits of document 01.
+//! Disks and racks, and the limits of document 01.
 
 pub const MOST_DISKS: u32 = 64;
 pub const MOST_SLOTS: u32 = 32;
@@ -12,14 +12,51 @@ pub const MOST_BYTES: usize = 65_536;
 pub const RECORD: usize = 8;
 
 /// How many films a disk stores.
-#[derive(Clone, Copy, Debug, PartialEq, Eq)]
+#[repr(transparent)]
+#[derive(Clone, Copy, Debug, Default, PartialEq, Eq, PartialOrd, Ord)]
 pub struct Slots(pub u32);
 
 /// How many viewers a disk serves: its load.
-#[derive(Clone, Copy, Debug, PartialEq, Eq)]
+#[repr(transparent)]
+#[derive(Clone, Copy, Debug, Default, PartialEq, Eq, PartialOrd, Ord)]
 pub struct Streams(pub u32);
 
-/// The rack's three numbers, as a caller gives them: not yet known to be in range.
+/// An entry of a rack, as a caller gives it: not yet known to be in range. A rack is a slice of
+/// them, that of disk 1 first, all of one ratio of streams to slots.
+#[repr(C)]
+#[derive(Clone, Copy, Debug, Default, PartialEq, Eq)]
+pub struct Disk {
+    pub slots: Slots,
+    pub streams: Streams,
+}
+
+impl Disk {
+    pub fn new(slots: Slots, streams: Streams) -> Self {
+        Disk { slots, streams }
+    }
+
+    /// The largest disk in range.
+    pub fn largest() -> Self {
+        Disk::new(Slots(MOST_SLOTS), Streams(MOST_STREAMS))
+    }
+
+    pub fn in_range(self) -> bool {
+        (1..=MOST_SLOTS).contains(&self.slots.0) && (1..=MOST_STREAMS).contains(&self.streams.0)
+    }
+}
+
+/// Whether a rack has 1 to 64 disks, all of them in range.
+pub fn disks_in_range(rack: &[Disk]) -> bool {
+    (1..=MOST_DISKS as usize).contains(&rack.len()) && rack.iter().all(|disk| disk.in_range())
+}
+
+/// How many places of the copy table a rack takes up: the slots of all its disks.
+pub fn places(rack: &[Disk]) -> usize {
+    rack.iter().map(|disk| disk.slots.0 as usize).sum()
+}
+
+/// A rack of equal disks by its three numbers, as `plan` and the text's first line have them. They
+/// are not yet known to be in range.
 #[derive(Clone, Copy, Debug, PartialEq, Eq)]
 pub struct Rack {
     pub disks: u32,
@@ -43,14 +80,17 @@ impl Rack {
     }
 
     pub fn in_range(self) -> bool {
-        (1..=MOST_DISKS).contains(&self.disks)
-            && (1..=MOST_SLOTS).contains(&self.slots.0)
-            && (1..=MOST_STREAMS).contains(&self.streams.0)
+        (1..=MOST_DISKS).contains(&self.disks) && self.disk().in_range()
     }
 
-    /// How many places of the copy table the rack takes up.
-    pub fn places(self) -> usize {
-        self.disks as usize * self.slots.0 as usize
+    /// One of its disks.
+    pub fn disk(self) -> Disk {
+        Disk::new(self.slots, self.streams)
+    }
+
+    /// Its disks. Of more than a rack may have there is one too many, so that they are refused.
+    pub fn entries(self) -> Vec<Disk> {
+        vec![self.disk(); self.disks.min(MOST_DISKS + 1) as usize]
     }
 }
 

@@ -5,7 +5,7 @@ use std::fmt;
 
 use crate::ffi::{Planned, ReadPlan, Written};
 
-/// A refusal of document 01 with its second number, which is 0 where 01 names none.
+/// A refusal of documents 01 and 02 with its second number, which is 0 where they name none.
 #[derive(Clone, Copy, Debug, PartialEq, Eq)]
 pub struct Refusal {
     pub number: u32,
@@ -55,14 +55,14 @@ const fn words_of_a(second: &'static str, subject: &'static str, fault: &'static
 }
 
 /// The words for each refusal, from number 1 on.
-const WORDS: [Words; 11] = [
+const WORDS: [Words; 13] = [
     words("a number of the rack", "is out of range"),
     words("list length", "is no multiple of 8"),
     words("the list", "has more than 1024 records"),
     words_of_a("record", "film number", "is outside 1 to 65535"),
     words_of_a("record", "demand", "is outside 0 to 1000000"),
     words_of_a("record", "film", "is in the list twice"),
-    words("a lent table", "is too short"),
+    words("a lent table or rack", "is too short"),
     words("the text", "has more than 65536 bytes"),
     words_of_a(
         "line",
@@ -71,6 +71,12 @@ const WORDS: [Words; 11] = [
     ),
     words("the plan in the tables", "is not well formed"),
     words("the space for the text", "is too short"),
+    words("the number of disks, or a disk,", "is out of range"),
+    words_of_a(
+        "disk",
+        "the ratio of streams to slots",
+        "is not that of disk 1",
+    ),
 ];
 
 impl Refusal {

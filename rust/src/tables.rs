@@ -2,7 +2,7 @@
 
 use std::fmt;
 
-use crate::rack::{Rack, MOST_RECORDS};
+use crate::rack::{disks_in_range, places, Disk, Rack, MOST_RECORDS};
 
 /// An entry of the copy table or of the left table: one number, the film in its low 32 bits
 /// and the viewers or the amount in its high 32 bits. So entries sort by amount, then by film.
@@ -49,20 +49,20 @@ pub type LentTables<'a> = Tables<&'a mut [Entry], &'a mut [u32]>;
 impl OwnTables {
     /// Tables of zeros with room for any plan of this rack and so many records.
     /// They are empty for a rack out of range, which every operation refuses first.
-    pub fn for_plan(rack: Rack, records: usize) -> Self {
-        if !rack.in_range() {
+    pub fn for_plan(rack: &[Disk], records: usize) -> Self {
+        if !disks_in_range(rack) {
             return Tables::default();
         }
         Tables {
-            copies: vec![Entry::default(); rack.places()],
-            counts: vec![0; rack.disks as usize],
+            copies: vec![Entry::default(); places(rack)],
+            counts: vec![0; rack.len()],
             left: vec![Entry::default(); records],
         }
     }
 
     /// Tables of zeros with room for any plan.
     pub fn for_any_plan() -> Self {
-        Self::for_plan(Rack::largest(), MOST_RECORDS)
+        Self::for_plan(&Rack::largest().entries(), MOST_RECORDS)
     }
 }
 
@@ -76,10 +76,10 @@ impl<Entries: AsRef<[Entry]>, Counts: AsRef<[u32]>> Tables<Entries, Counts> {
     }
 
     /// Whether the tables have room for this rack and so many left films.
-    pub fn hold(&self, rack: Rack, left: usize) -> bool {
+    pub fn hold(&self, rack: &[Disk], left: usize) -> bool {
         let view = self.view();
-        view.copies.len() >= rack.places()
-            && view.counts.len() >= rack.disks as usize
+        view.copies.len() >= places(rack)
+            && view.counts.len() >= rack.len()
             && view.left.len() >= left
     }
 }

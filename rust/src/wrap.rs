@@ -6,7 +6,7 @@
 #![allow(unsafe_code)]
 
 use crate::ffi::{self, Planned, ReadPlan, Written};
-use crate::rack::Rack;
+use crate::rack::Disk;
 use crate::tables::{LentTables, TablesView};
 
 /// Calls a function with some arguments, the three tables, and the arguments after them.
@@ -26,14 +26,14 @@ macro_rules! call {
 }
 
 /// Plans a demand list into the tables. A refusal leaves the tables as they were.
-pub fn plan(rack: Rack, list: &[u8], tables: LentTables) -> Planned {
-    let (slots, streams) = (rack.slots.0, rack.streams.0);
+pub fn plan(rack: &[Disk], list: &[u8], tables: LentTables) -> Planned {
+    let (disks, disk_count) = (rack.as_ptr(), rack.len());
     let (bytes, count) = (list.as_ptr(), list.len());
     // SAFETY: every pointer comes from a live slice, together with that slice's length.
     unsafe {
         call!(
             jugfjord_plan,
-            (rack.disks, slots, streams, bytes, count),
+            (disks, disk_count, bytes, count),
             tables.as_mut_ptr,
             ()
         )
@@ -42,28 +42,37 @@ pub fn plan(rack: Rack, list: &[u8], tables: LentTables) -> Planned {
 
 /// Writes the text of the plan that the tables hold, with so many left films.
 /// Bytes after the plan's text stay as they were. A refusal leaves all bytes so.
-pub fn write(rack: Rack, tables: TablesView, left_films: u32, text: &mut [u8]) -> Written {
-    let (slots, streams) = (rack.slots.0, rack.streams.0);
+pub fn write(rack: &[Disk], tables: TablesView, left_films: u32, text: &mut [u8]) -> Written {
+    let (disks, disk_count) = (rack.as_ptr(), rack.len());
     let (space, count) = (text.as_mut_ptr(), text.len());
-    // SAFETY: as in `plan`. The library only reads the tables.
+    // SAFETY: as in `plan`. The library only reads the rack and the tables.
     unsafe {
         call!(
             jugfjord_write,
-            (rack.disks, slots, streams),
+            (disks, disk_count),
             tables.as_ptr,
             (left_films, space, count)
         )
     }
 }
 
-/// Reads a plan text into the tables. A refusal leaves the tables as they were.
-pub fn read(text: &[u8], tables: LentTables) -> ReadPlan {
+/// Reads a plan text into the rack and the tables. Entries beyond the disks that were read stay as
+/// they were. A refusal leaves rack and tables so.
+pub fn read(text: &[u8], rack: &mut [Disk], tables: LentTables) -> ReadPlan {
     let (bytes, count) = (text.as_ptr(), text.len());
+    let (disks, disk_count) = (rack.as_mut_ptr(), rack.len());
     // SAFETY: as in `plan`.
-    unsafe { call!(jugfjord_read, (bytes, count), tables.as_mut_ptr, ()) }
+    unsafe {
+        call!(
+            jugfjord_read,
+            (bytes, count, disks, disk_count),
+            tables.as_mut_ptr,
+            ()
+        )
+    }
 }
 
-/// Judges a plan text without tables: what reading it would answer, were every table long enough.
+/// Judges a plan text with no rack and no tables: what reading it would answer, were all long enough.
 pub fn judge(text: &[u8]) -> ReadPlan {
     // SAFETY: as in `plan`.
     unsafe { ffi::jugfjord_judge(text.as_ptr(), text.len()) }

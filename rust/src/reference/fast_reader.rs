@@ -1,13 +1,16 @@
 //! A fast reader: one cursor over the bytes, the copies kept aside until all is judged.
 
+use super::fast_rack;
 use crate::ffi::ReadPlan;
-use crate::rack::{Rack, Slots, Streams, LAST_FILM, MOST_BYTES, MOST_DEMAND, MOST_RECORDS};
+use crate::rack::{
+    places, Disk, Slots, Streams, LAST_FILM, MOST_BYTES, MOST_DEMAND, MOST_DISKS, MOST_RECORDS,
+};
 use crate::refusal::Refusal;
 use crate::tables::{Entry, LentTables};
 
 /// What a text holds: the entries of all disks and then of the left line, and their numbers.
 struct Parsed {
-    rack: Rack,
+    rack: Vec<Disk>,
     entries: Vec<Entry>,
     counts: Vec<u32>,
     copies: usize,
@@ -15,23 +18,24 @@ struct Parsed {
     unserved: u64,
 }
 
-/// Reads a plan text into the tables.
-pub fn read(text: &[u8], tables: LentTables) -> ReadPlan {
-    attempt(text, tables).unwrap_or_else(ReadPlan::from)
+/// Reads a plan text into the rack and the tables.
+pub fn read(text: &[u8], rack: &mut [Disk], tables: LentTables) -> ReadPlan {
+    attempt(text, rack, tables).unwrap_or_else(ReadPlan::from)
 }
 
-fn attempt(text: &[u8], tables: LentTables) -> Result<ReadPlan, Refusal> {
+fn attempt(text: &[u8], rack: &mut [Disk], tables: LentTables) -> Result<ReadPlan, Refusal> {
     Refusal::unless(text.len() <= MOST_BYTES, 8)?;
     let parsed = parse(text).map_err(|second| Refusal { number: 9, second })?;
     let left = parsed.entries.len() - parsed.copies;
-    Refusal::unless(tables.hold(parsed.rack, left), 7)?;
+    let entries = rack.get_mut(..parsed.rack.len());
+    let entries = entries.ok_or(Refusal::plain(7))?;
+    Refusal::unless(tables.hold(&parsed.rack, left), 7)?;
+    entries.copy_from_slice(&parsed.rack);
     store(&parsed, tables);
     Ok(ReadPlan {
         number: 0,
         second: 0,
-        disks: parsed.rack.disks,
-        slots: parsed.rack.slots.0,
-        streams: parsed.rack.streams.0,
+        disks: parsed.rack.len() as u32,
         left: left as u32,
         served: parsed.served,
         unserved: parsed.unserved,
@@ -42,32 +46,34 @@ fn attempt(text: &[u8], tables: LentTables) -> Result<ReadPlan, Refusal> {
 fn parse(text: &[u8]) -> Result<Parsed, u32> {
     let mut cursor = Cursor { rest: text };
     let rack = cursor.rack().ok_or(1u32)?;
+    let disks = rack.len() as u32;
     let mut parsed = Parsed {
+        entries: Vec::with_capacity(places(&rack) + MOST_RECORDS),
+        counts: Vec::with_capacity(rack.len()),
         rack,
-        entries: Vec::with_capacity(rack.places() + MOST_RECORDS),
-        counts: Vec::with_capacity(rack.disks as usize),
         copies: 0,
         served: 0,
         unserved: 0,
     };
     // For each film the last disk that holds it.
     let mut holder = vec![0u8; LAST_FILM as usize + 1];
-    for disk in 1..=rack.disks {
+    for disk in 1..=disks {
         parsed
             .disk(&mut cursor, disk, &mut holder)
             .ok_or(disk + 1)?;
     }
-    parsed.left(&mut cursor).ok_or(rack.disks + 2)?;
-    parsed.sums(&mut cursor).ok_or(rack.disks + 3)?;
+    parsed.left(&mut cursor).ok_or(disks + 2)?;
+    parsed.sums(&mut cursor).ok_or(disks + 3)?;
     if cursor.rest.is_empty() {
         Ok(parsed)
     } else {
-        Err(rack.disks + 4)
+        Err(disks + 4)
     }
 }
 
 impl Parsed {
     fn disk(&mut self, cursor: &mut Cursor, disk: u32, holder: &mut [u8]) -> Option<()> {
+        let Disk { slots, streams } = self.rack[disk as usize - 1];
         cursor.bytes(b"(disk ")?;
         (cursor.number()? == disk).then_some(())?;
         let mut load = 0;
@@ -84,8 +90,7 @@ impl Parsed {
         self.counts.push(count as u32);
         self.copies += count;
         self.served += load;
-        (count <= self.rack.slots.0 as usize && load <= u64::from(self.rack.streams.0))
-            .then_some(())
+        (count <= slots.0 as usize && load <= u64::from(streams.0)).then_some(())
     }
 
     fn left(&mut self, cursor: &mut Cursor) -> Option<()> {
@@ -113,15 +118,16 @@ impl Parsed {
 }
 
 fn store(parsed: &Parsed, tables: LentTables) {
-    let slots = parsed.rack.slots.0 as usize;
-    let (copies, left) = parsed.entries.split_at(parsed.copies);
-    let disks = tables.copies.chunks_exact_mut(slots);
+    let (mut copies, left) = parsed.entries.split_at(parsed.copies);
     let mut at = 0;
-    for (disk, &count) in disks.zip(&parsed.counts) {
-        let (used, free) = disk.split_at_mut(count as usize);
-        used.copy_from_slice(&copies[at..at + used.len()]);
+    for (disk, &count) in parsed.rack.iter().zip(&parsed.counts) {
+        let own = &mut tables.copies[at..at + disk.slots.0 as usize];
+        let (used, free) = own.split_at_mut(count as usize);
+        let (now, later) = copies.split_at(used.len());
+        used.copy_from_slice(now);
         free.fill(Entry::default());
-        at += used.len();
+        copies = later;
+        at += disk.slots.0 as usize;
     }
     tables.left[..left.len()].copy_from_slice(left);
     tables.counts[..parsed.counts.len()].copy_from_slice(&parsed.counts);
@@ -158,7 +164,25 @@ impl Cursor<'_> {
         Some(value)
     }
 
-    fn rack(&mut self) -> Option<Rack> {
+    /// The disks of either first line.
+    fn rack(&mut self) -> Option<Vec<Disk>> {
+        let rack = match self.bytes(b"(mixed") {
+            Some(()) => self.mixed_disks()?,
+            None => self.equal_disks()?,
+        };
+        fast_rack::judge(&rack).is_ok().then_some(rack)
+    }
+
+    /// The disks behind the line's word, unless they are equal.
+    fn mixed_disks(&mut self) -> Option<Vec<Disk>> {
+        let mut rack = Vec::new();
+        while let Some((slots, streams)) = self.pair_or_end()? {
+            rack.push(Disk::new(Slots(slots), Streams(streams)));
+        }
+        (!fast_rack::is_equal(&rack)).then_some(rack)
+    }
+
+    fn equal_disks(&mut self) -> Option<Vec<Disk>> {
         self.bytes(b"(rack ")?;
         let disks = self.number()?;
         self.bytes(b" ")?;
@@ -166,8 +190,8 @@ impl Cursor<'_> {
         self.bytes(b" ")?;
         let streams = self.number()?;
         self.bytes(b")\n")?;
-        let rack = Rack::new(disks, Slots(slots), Streams(streams));
-        rack.in_range().then_some(rack)
+        let disk = Disk::new(Slots(slots), Streams(streams));
+        (disks <= MOST_DISKS).then(|| vec![disk; disks as usize])
     }
 
     /// The line's next pair, or that the line ends here.

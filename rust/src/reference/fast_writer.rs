@@ -1,7 +1,8 @@
 //! A fast writer: one pass judges the plan and adds up the length, one pass writes.
 
+use super::fast_rack;
 use crate::ffi::Written;
-use crate::rack::{Rack, LAST_FILM, MOST_DEMAND, MOST_RECORDS};
+use crate::rack::{places, Disk, LAST_FILM, MOST_DEMAND, MOST_RECORDS};
 use crate::refusal::Refusal;
 use crate::tables::{Entry, Tables, TablesView};
 
@@ -14,21 +15,21 @@ struct Sums {
 }
 
 /// Writes the text of the plan in the tables, with so many left films.
-pub fn write(rack: Rack, tables: TablesView, left: u32, text: &mut [u8]) -> Written {
+pub fn write(rack: &[Disk], tables: TablesView, left: u32, text: &mut [u8]) -> Written {
     attempt(rack, tables, left as usize, text).unwrap_or_else(Written::from)
 }
 
 fn attempt(
-    rack: Rack,
+    rack: &[Disk],
     tables: TablesView,
     left: usize,
     text: &mut [u8],
 ) -> Result<Written, Refusal> {
-    Refusal::unless(rack.in_range(), 1)?;
+    fast_rack::judge(rack)?;
     Refusal::unless(tables.hold(rack, left), 7)?;
     let tables = Tables {
-        copies: &tables.copies[..rack.places()],
-        counts: &tables.counts[..rack.disks as usize],
+        copies: &tables.copies[..places(rack)],
+        counts: &tables.counts[..rack.len()],
         left: &tables.left[..left],
     };
     let sums = judge(rack, &tables).ok_or(Refusal::plain(10))?;
@@ -42,8 +43,7 @@ fn attempt(
 }
 
 /// Tests the plan and adds it up. Nothing where it is not well formed.
-fn judge(rack: Rack, tables: &TablesView) -> Option<Sums> {
-    let slots = rack.slots.0 as usize;
+fn judge(rack: &[Disk], tables: &TablesView) -> Option<Sums> {
     let mut sums = Sums {
         served: 0,
         unserved: 0,
@@ -51,27 +51,39 @@ fn judge(rack: Rack, tables: &TablesView) -> Option<Sums> {
     };
     // For each film the last disk that holds it.
     let mut holder = vec![0u8; LAST_FILM as usize + 1];
-    let disks = tables.copies.chunks(slots).zip(tables.counts);
-    for (disk, (places, &count)) in (1..).zip(disks) {
+    for (number, (disk, places, count)) in (1..).zip(disks(rack, tables)) {
         let (copies, free) = places.split_at_checked(count as usize)?;
         let mut load = 0;
         for &copy in copies {
             let (film, viewers) = (copy.film(), copy.amount());
             let last = holder.get_mut(film as usize)?;
-            if film == 0 || *last == disk {
+            if film == 0 || *last == number {
                 return None;
             }
-            *last = disk;
+            *last = number;
             load += u64::from(viewers);
             sums.length += pair_length(film, viewers);
         }
-        if load > u64::from(rack.streams.0) || free.iter().any(|&place| place != Entry::default()) {
+        if load > u64::from(disk.streams.0) || free.iter().any(|&place| place != Entry::default()) {
             return None;
         }
         sums.served += load;
     }
     judge_left(tables, &mut sums)?;
     Some(sums)
+}
+
+/// Each disk with its places and its count.
+fn disks<'a>(
+    rack: &'a [Disk],
+    tables: &TablesView<'a>,
+) -> impl Iterator<Item = (Disk, &'a [Entry], u32)> {
+    let mut rest = tables.copies;
+    rack.iter().zip(tables.counts).map(move |(&disk, &count)| {
+        let (places, behind) = rest.split_at(disk.slots.0 as usize);
+        rest = behind;
+        (disk, places, count)
+    })
 }
 
 fn judge_left(tables: &TablesView, sums: &mut Sums) -> Option<()> {
@@ -102,25 +114,33 @@ fn pair_length(film: u32, amount: u32) -> usize {
 }
 
 /// The length of the whole text.
-fn length(rack: Rack, sums: &Sums) -> usize {
-    let rack_digits = digits(rack.disks) + digits(rack.slots.0) + digits(rack.streams.0);
-    let disk_digits: usize = (1..=rack.disks).map(digits).sum();
+fn length(rack: &[Disk], sums: &Sums) -> usize {
+    let disk_digits: usize = (1..=rack.len() as u32).map(digits).sum();
     let sum_digits = digits(sums.served as u32) + digits(sums.unserved as u32);
-    "(rack   )\n(left)\n(served  )\n".len()
-        + "(disk )\n".len() * rack.disks as usize
-        + rack_digits
+    "(left)\n(served  )\n".len()
+        + "(disk )\n".len() * rack.len()
+        + first_line_length(rack)
         + disk_digits
         + sum_digits
         + sums.length
 }
 
-fn put_plan(rack: Rack, tables: &TablesView, sums: &Sums, mut pen: Pen) {
-    let slots = rack.slots.0 as usize;
-    pen.line("(rack", &[rack.disks, rack.slots.0, rack.streams.0]);
-    let disks = tables.copies.chunks(slots).zip(tables.counts);
-    for (disk, (places, &count)) in (1..).zip(disks) {
+/// The length of the first line with its end.
+fn first_line_length(rack: &[Disk]) -> usize {
+    let pair = |disk: &Disk| pair_length(disk.slots.0, disk.streams.0);
+    if fast_rack::is_equal(rack) {
+        // The number of disks and a space, and a pair without its brackets.
+        "(rack )\n".len() + digits(rack.len() as u32) + pair(&rack[0]) - 2
+    } else {
+        "(mixed)\n".len() + rack.iter().map(pair).sum::<usize>()
+    }
+}
+
+fn put_plan(rack: &[Disk], tables: &TablesView, sums: &Sums, mut pen: Pen) {
+    pen.rack(rack);
+    for (number, (_, places, count)) in (1..).zip(disks(rack, tables)) {
         pen.bytes(b"(disk ");
-        pen.number(disk);
+        pen.number(number);
         pen.pairs(&places[..count as usize]);
     }
     pen.bytes(b"(left");
@@ -161,14 +181,33 @@ impl Pen<'_> {
         self.bytes(b")\n");
     }
 
+    /// The first line.
+    fn rack(&mut self, rack: &[Disk]) {
+        if fast_rack::is_equal(rack) {
+            let Disk { slots, streams } = rack[0];
+            self.line("(rack", &[rack.len() as u32, slots.0, streams.0]);
+        } else {
+            self.bytes(b"(mixed");
+            for disk in rack {
+                self.pair(disk.slots.0, disk.streams.0);
+            }
+            self.bytes(b")\n");
+        }
+    }
+
+    #[inline]
+    fn pair(&mut self, first: u32, second: u32) {
+        self.bytes(b" (");
+        self.number(first);
+        self.bytes(b" ");
+        self.number(second);
+        self.bytes(b")");
+    }
+
     /// The pairs and the end of their line.
     fn pairs(&mut self, entries: &[Entry]) {
         for &entry in entries {
-            self.bytes(b" (");
-            self.number(entry.film());
-            self.bytes(b" ");
-            self.number(entry.amount());
-            self.bytes(b")");
+            self.pair(entry.film(), entry.amount());
         }
         self.bytes(b")\n");
     }

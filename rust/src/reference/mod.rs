@@ -1,10 +1,13 @@
 //! Plain Rust with the library's results, written apart from it.
 //!
-//! `planner`, `writer` and `reader` follow the words of documents 01 and 02 and are slow.
-//! `rolling`, `fast_writer` and `fast_reader` are their fast rivals for the benchmark.
+//! `mixed_planner`, `writer` and `reader` follow the words of documents 01 and 02 and are slow.
+//! `rolling`, `fast_writer` and `fast_reader` are their fast rivals for the benchmark. `planner`
+//! was there before racks had unequal disks, and plans equal ones by their three numbers.
 
+mod fast_rack;
 pub mod fast_reader;
 pub mod fast_writer;
+pub mod mixed_planner;
 pub mod plan;
 pub mod planner;
 pub mod reader;

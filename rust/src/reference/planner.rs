@@ -1,5 +1,6 @@
-//! A plain planner, sentence by sentence from document 01, and from document 02 for shelf
-//! copies. It sums every window anew.
+//! A plain planner for racks of equal disks by their three numbers, as the program `plan` takes
+//! them: sentence by sentence from document 01, and from document 02 for shelf copies. It sums
+//! every window anew.
 
 use std::ops::Range;
 
@@ -23,7 +24,7 @@ pub fn plan(rack: Rack, list: &[u8], mut tables: LentTables) -> Planned {
         Err(refusal) => return refusal.into(),
     };
     let mut plan = by_method(rack, &demands);
-    store_shelf_copies(&mut plan, &demands);
+    store_shelf_copies(rack, &mut plan, &demands);
     tables.left[..demands.len()].fill(Entry::default());
     plan.store(&mut tables);
     Planned {
@@ -41,7 +42,7 @@ fn judge(rack: Rack, list: &[u8], tables: &LentTables) -> Result<Vec<Pair>, Refu
     Refusal::unless(rack.in_range(), 1)?;
     Refusal::unless(list.len().is_multiple_of(RECORD), 2)?;
     Refusal::unless(count <= MOST_RECORDS, 3)?;
-    Refusal::unless(tables.hold(rack, count), 7)?;
+    Refusal::unless(tables.hold(&rack.entries(), count), 7)?;
     let mut demands = Vec::new();
     for record in list.chunks(RECORD) {
         let pair = (number(&record[..4]), number(&record[4..]));
@@ -88,13 +89,17 @@ fn by_method(rack: Rack, demands: &[Pair]) -> Plan {
     let disks = (0..rack.disks).map(|_| fill(rack, &mut list)).collect();
     list.sort_by_key(|wanted| wanted.film);
     let left = list.iter().map(|w| (w.film, w.amount as u32)).collect();
-    Plan { rack, disks, left }
+    Plan {
+        rack: rack.entries(),
+        disks,
+        left,
+    }
 }
 
 /// Takes the films of demand 0 in ascending number. Each goes to the lowest disk with a free
 /// slot, as a copy with 0 viewers after its other copies. One with no free slot is left with 0.
-fn store_shelf_copies(plan: &mut Plan, demands: &[Pair]) {
-    let slots = plan.rack.slots.0 as usize;
+fn store_shelf_copies(rack: Rack, plan: &mut Plan, demands: &[Pair]) {
+    let slots = rack.slots.0 as usize;
     let mut unwanted: Vec<Pair> = demands.iter().copied().filter(|d| d.1 == 0).collect();
     unwanted.sort();
     for copy in unwanted {

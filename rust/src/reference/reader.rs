@@ -1,36 +1,38 @@
 //! A plain reader. A line is right when its own numbers, written as the writer would write
 //! them, give the line back, and when they are in range.
 
-use super::plan::{disk_is_well_formed, left_is_well_formed, Pair, Plan};
-use super::writer::{disk_line, left_line, rack_line, served_line};
+use super::plan::{disk_is_well_formed, judge_rack, left_is_well_formed, Pair, Plan};
+use super::writer::{disk_line, first_line, left_line, served_line};
 use crate::ffi::ReadPlan;
-use crate::rack::{Rack, Slots, Streams, MOST_BYTES};
+use crate::rack::{Disk, Rack, Slots, Streams, MOST_BYTES};
 use crate::refusal::Refusal;
 use crate::tables::LentTables;
 
-/// Reads a plan text into the tables.
-pub fn read(text: &[u8], mut tables: LentTables) -> ReadPlan {
-    let plan = match judge(text, &tables) {
+/// Reads a plan text into the rack and the tables.
+pub fn read(text: &[u8], rack: &mut [Disk], mut tables: LentTables) -> ReadPlan {
+    let plan = match judge(text, rack.len(), &tables) {
         Ok(plan) => plan,
         Err(refusal) => return refusal.into(),
     };
+    for (entry, &disk) in rack.iter_mut().zip(&plan.rack) {
+        *entry = disk;
+    }
     plan.store(&mut tables);
     ReadPlan {
         number: 0,
         second: 0,
-        disks: plan.rack.disks,
-        slots: plan.rack.slots.0,
-        streams: plan.rack.streams.0,
+        disks: plan.rack.len() as u32,
         left: plan.left.len() as u32,
         served: plan.served(),
         unserved: plan.unserved(),
     }
 }
 
-fn judge(text: &[u8], tables: &LentTables) -> Result<Plan, Refusal> {
+fn judge(text: &[u8], entries: usize, tables: &LentTables) -> Result<Plan, Refusal> {
     Refusal::unless(text.len() <= MOST_BYTES, 8)?;
     let plan = plan_of(text).map_err(|second| Refusal { number: 9, second })?;
-    Refusal::unless(tables.hold(plan.rack, plan.left.len()), 7)?;
+    let is_room = entries >= plan.rack.len() && tables.hold(&plan.rack, plan.left.len());
+    Refusal::unless(is_room, 7)?;
     Ok(plan)
 }
 
@@ -38,8 +40,9 @@ fn judge(text: &[u8], tables: &LentTables) -> Result<Plan, Refusal> {
 pub fn plan_of(text: &[u8]) -> Result<Plan, u32> {
     let mut lines = Lines { text, number: 0 };
     let rack = lines.next(rack_of)?;
-    let disks = (1..=rack.disks)
-        .map(|disk| lines.next(|line| disk_of(rack, disk, line)))
+    let disks = (1..)
+        .zip(&rack)
+        .map(|(number, &disk)| lines.next(|line| disk_of(disk, number, line)))
         .collect::<Result<Vec<_>, _>>()?;
     let left = lines.next(left_of)?;
     let plan = Plan { rack, disks, left };
@@ -89,18 +92,26 @@ fn pairs(numbers: &[u32]) -> Vec<Pair> {
         .collect()
 }
 
-fn rack_of(line: &[u8]) -> Option<Rack> {
-    let &[disks, slots, streams] = numbers(line).as_slice() else {
-        return None;
+/// The disks of a rack by its three numbers, or by each disk's two.
+fn rack_of(line: &[u8]) -> Option<Vec<Disk>> {
+    let numbers = numbers(line);
+    let rack = match numbers.as_slice() {
+        &[disks, slots, streams] => Rack::new(disks, Slots(slots), Streams(streams)).entries(),
+        _ => disks(&numbers),
     };
-    let rack = Rack::new(disks, Slots(slots), Streams(streams));
-    (rack.in_range() && rack_line(rack).as_bytes() == line).then_some(rack)
+    let same = first_line(&rack).as_bytes() == line;
+    (same && judge_rack(&rack).is_ok()).then_some(rack)
 }
 
-fn disk_of(rack: Rack, disk: u32, line: &[u8]) -> Option<Vec<Pair>> {
+fn disks(numbers: &[u32]) -> Vec<Disk> {
+    let disk = |(slots, streams)| Disk::new(Slots(slots), Streams(streams));
+    pairs(numbers).into_iter().map(disk).collect()
+}
+
+fn disk_of(disk: Disk, number: usize, line: &[u8]) -> Option<Vec<Pair>> {
     let copies = pairs(numbers(line).get(1..)?);
-    let same = disk_line(disk as usize, &copies).as_bytes() == line;
-    (same && disk_is_well_formed(rack, &copies)).then_some(copies)
+    let same = disk_line(number, &copies).as_bytes() == line;
+    (same && disk_is_well_formed(disk, &copies)).then_some(copies)
 }
 
 fn left_of(line: &[u8]) -> Option<Vec<Pair>> {

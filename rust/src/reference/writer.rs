@@ -1,13 +1,15 @@
 //! A plain writer: gathers the plan from the tables, formats it, then copies the text.
 
-use super::plan::{disk_is_well_formed, left_is_well_formed, Pair, Plan};
+use std::collections::HashSet;
+
+use super::plan::{disk_is_well_formed, judge_rack, left_is_well_formed, Pair, Plan};
 use crate::ffi::Written;
-use crate::rack::Rack;
+use crate::rack::{places, Disk};
 use crate::refusal::Refusal;
 use crate::tables::{Entry, TablesView};
 
 /// Writes the text of the plan in the tables, with so many left films.
-pub fn write(rack: Rack, tables: TablesView, left: u32, space: &mut [u8]) -> Written {
+pub fn write(rack: &[Disk], tables: TablesView, left: u32, space: &mut [u8]) -> Written {
     match written(rack, tables, left, space.len()) {
         Ok(text) => {
             space[..text.len()].copy_from_slice(text.as_bytes());
@@ -20,8 +22,8 @@ pub fn write(rack: Rack, tables: TablesView, left: u32, space: &mut [u8]) -> Wri
     }
 }
 
-fn written(rack: Rack, tables: TablesView, left: u32, space: usize) -> Result<String, Refusal> {
-    Refusal::unless(rack.in_range(), 1)?;
+fn written(rack: &[Disk], tables: TablesView, left: u32, space: usize) -> Result<String, Refusal> {
+    judge_rack(rack)?;
     Refusal::unless(tables.hold(rack, left as usize), 7)?;
     let plan = gather(rack, tables, left as usize).ok_or(Refusal::plain(10))?;
     let text = text_of(&plan);
@@ -30,19 +32,24 @@ fn written(rack: Rack, tables: TablesView, left: u32, space: usize) -> Result<St
 }
 
 /// The plan that the tables hold, if it is well formed.
-fn gather(rack: Rack, tables: TablesView, left: usize) -> Option<Plan> {
-    let copies = pairs(&tables.copies[..rack.places()]);
+fn gather(rack: &[Disk], tables: TablesView, left: usize) -> Option<Plan> {
+    let copies = pairs(tables.copies);
     let left = pairs(&tables.left[..left]);
     let mut disks = Vec::new();
-    for (places, &count) in copies.chunks(rack.slots.0 as usize).zip(tables.counts) {
-        let used = places.get(..count as usize)?;
-        let unused = &places[used.len()..];
-        if !disk_is_well_formed(rack, used) || unused.iter().any(|&place| place != (0, 0)) {
+    for (at, (&disk, &count)) in rack.iter().zip(tables.counts).enumerate() {
+        let own = &copies[places(&rack[..at])..places(&rack[..=at])];
+        let used = own.get(..count as usize)?;
+        let unused = &own[used.len()..];
+        if !disk_is_well_formed(disk, used) || unused.iter().any(|&place| place != (0, 0)) {
             return None;
         }
         disks.push(used.to_vec());
     }
-    left_is_well_formed(&left).then_some(Plan { rack, disks, left })
+    left_is_well_formed(&left).then_some(Plan {
+        rack: rack.to_vec(),
+        disks,
+        left,
+    })
 }
 
 fn pairs(entries: &[Entry]) -> Vec<Pair> {
@@ -53,15 +60,22 @@ fn pairs(entries: &[Entry]) -> Vec<Pair> {
 /// The plan's text, well formed or not.
 pub fn text_of(plan: &Plan) -> String {
     let disks = plan.disks.iter().enumerate();
-    let mut lines = vec![rack_line(plan.rack)];
+    let mut lines = vec![first_line(&plan.rack)];
     lines.extend(disks.map(|(at, copies)| disk_line(at + 1, copies)));
     lines.push(left_line(&plan.left));
     lines.push(served_line(plan.served(), plan.unserved()));
     lines.into_iter().map(|line| line + "\n").collect()
 }
 
-pub fn rack_line(rack: Rack) -> String {
-    format!("(rack {} {} {})", rack.disks, rack.slots.0, rack.streams.0)
+/// The rack: its three numbers where all disks are equal, else each disk's slots and streams.
+pub fn first_line(rack: &[Disk]) -> String {
+    let sizes = |disk: &Disk| (disk.slots.0, disk.streams.0);
+    let sizes: Vec<Pair> = rack.iter().map(sizes).collect();
+    let one_size = sizes.iter().collect::<HashSet<_>>().len() == 1;
+    match sizes.first() {
+        Some((slots, streams)) if one_size => format!("(rack {} {slots} {streams})", sizes.len()),
+        _ => format!("(mixed{})", inner(&sizes)),
+    }
 }
 
 pub fn disk_line(disk: usize, copies: &[Pair]) -> String {

@@ -1,11 +1,12 @@
 //! Cases A to I of document 01, with the values that stand there but for G, which document 02
-//! changes, and further cases of shelf copies, worked out by hand.
+//! changes, and further cases of shelf copies and of unequal disks, worked out by hand.
 
 use jugfjord::ffi::{Planned, ReadPlan, Written};
-use jugfjord::rack::{records, Rack, Slots, Streams};
+use jugfjord::rack::{records, Disk};
 use jugfjord::reference::plan::{Pair, Plan};
 use jugfjord::tables::{Entry, OwnTables};
 
+use crate::racks::{disk, equal_rack as rack};
 use crate::subjects::{PLANNERS, READERS, WRITERS};
 
 pub const TEXT_A: &str = "(rack 3 4 6)
@@ -31,18 +32,29 @@ const LIST_A: [Pair; 12] = [
     (12, 4),
 ];
 
-fn rack(disks: u32, slots: u32, streams: u32) -> Rack {
-    Rack::new(disks, Slots(slots), Streams(streams))
+/// The text of the plan of unequal disks below.
+pub const TEXT_MIXED: &str = "(mixed (4 8) (2 4))
+(disk 1 (2 3) (3 5))
+(disk 2 (1 3) (2 1))
+(left)
+(served 12 0)
+";
+
+/// Its list. Disk 2 is filled first, since it has fewer slots.
+const LIST_MIXED: [Pair; 3] = [(1, 3), (2, 4), (3, 5)];
+
+fn rack_mixed() -> Vec<Disk> {
+    vec![disk(4, 8), disk(2, 4)]
 }
 
 /// Asserts what each planner makes of the list: copies, left films, S and U.
-fn expect(rack: Rack, list: &[Pair], disks: &[&[Pair]], left: &[Pair], sums: (u64, u64)) {
+fn expect(rack: Vec<Disk>, list: &[Pair], disks: &[&[Pair]], left: &[Pair], sums: (u64, u64)) {
     let plan = Plan {
-        rack,
+        rack: rack.clone(),
         disks: disks.iter().map(|copies| copies.to_vec()).collect(),
         left: left.to_vec(),
     };
-    let mut stored = OwnTables::for_plan(rack, list.len());
+    let mut stored = OwnTables::for_plan(&rack, list.len());
     plan.store(&mut stored.lend());
     let answer = Planned {
         served: sums.0,
@@ -51,15 +63,15 @@ fn expect(rack: Rack, list: &[Pair], disks: &[&[Pair]], left: &[Pair], sums: (u6
         ..Planned::default()
     };
     for (name, planner) in PLANNERS {
-        let mut tables = OwnTables::for_plan(rack, list.len());
-        let planned = planner(rack, &records(list), tables.lend());
+        let mut tables = OwnTables::for_plan(&rack, list.len());
+        let planned = planner(&rack, &records(list), tables.lend());
         assert_eq!(planned, answer, "{name}");
         assert_eq!(tables, stored, "{name}");
     }
 }
 
 /// Asserts that each planner refuses the list and touches no table.
-pub fn expect_refused(rack: Rack, list: &[Pair], number: u32, second: u32) {
+pub fn expect_refused(rack: &[Disk], list: &[Pair], number: u32, second: u32) {
     let answer = Planned {
         number,
         second,
@@ -78,12 +90,39 @@ pub fn expect_refused(rack: Rack, list: &[Pair], number: u32, second: u32) {
     }
 }
 
-/// The plan of case A in its tables.
-fn tables_a() -> OwnTables {
-    let mut tables = OwnTables::for_plan(rack(3, 4, 6), LIST_A.len());
+/// The plan of a list in its tables.
+fn planned(rack: &[Disk], list: &[Pair]) -> OwnTables {
+    let mut tables = OwnTables::for_plan(rack, list.len());
     let planner = PLANNERS[0].1;
-    planner(rack(3, 4, 6), &records(&LIST_A), tables.lend());
+    planner(rack, &records(list), tables.lend());
     tables
+}
+
+/// Asserts that each writer makes this text of the list's plan.
+fn expect_written(rack: &[Disk], list: &[Pair], left: u32, expected: &str) {
+    let tables = planned(rack, list);
+    let answer = Written {
+        length: expected.len() as u64,
+        ..Written::default()
+    };
+    for (name, writer) in WRITERS {
+        let mut text = vec![b'?'; expected.len() + 1];
+        let written = writer(rack, tables.view(), left, &mut text);
+        assert_eq!(written, answer, "{name}");
+        assert_eq!(text, [expected.as_bytes(), b"?"].concat(), "{name}");
+    }
+}
+
+/// Asserts that each reader makes the list's rack and plan of this text, with this answer.
+fn expect_read(rack: &[Disk], list: &[Pair], text: &str, answer: ReadPlan) {
+    for (name, reader) in READERS {
+        let mut tables = OwnTables::for_plan(rack, list.len());
+        let mut entries = vec![disk(7, 7); rack.len() + 1];
+        let read = reader(text.as_bytes(), &mut entries, tables.lend());
+        assert_eq!(read, answer, "{name}");
+        assert_eq!(entries, [rack, &[disk(7, 7)]].concat(), "{name}");
+        assert_eq!(tables, planned(rack, list), "{name}");
+    }
 }
 
 #[test]
@@ -98,18 +137,7 @@ fn a_is_planned() {
 
 #[test]
 fn a_is_written() {
-    let tables = tables_a();
-    for (name, writer) in WRITERS {
-        let mut text = vec![b'?'; TEXT_A.len() + 1];
-        let written = writer(rack(3, 4, 6), tables.view(), 2, &mut text);
-        let length = TEXT_A.len() as u64;
-        let answer = Written {
-            length,
-            ..Written::default()
-        };
-        assert_eq!(written, answer, "{name}");
-        assert_eq!(text, [TEXT_A.as_bytes(), b"?"].concat(), "{name}");
-    }
+    expect_written(&rack(3, 4, 6), &LIST_A, 2, TEXT_A);
 }
 
 #[test]
@@ -118,17 +146,11 @@ fn a_is_read() {
         number: 0,
         second: 0,
         disks: 3,
-        slots: 4,
-        streams: 6,
         left: 2,
         served: 16,
         unserved: 2,
     };
-    for (name, reader) in READERS {
-        let mut tables = OwnTables::for_plan(rack(3, 4, 6), LIST_A.len());
-        assert_eq!(reader(TEXT_A.as_bytes(), tables.lend()), answer, "{name}");
-        assert_eq!(tables, tables_a(), "{name}");
-    }
+    expect_read(&rack(3, 4, 6), &LIST_A, TEXT_A, answer);
 }
 
 #[test]
@@ -178,7 +200,7 @@ fn h_ties_go_by_film_number() {
 
 #[test]
 fn i_a_repeated_film_is_refused() {
-    expect_refused(rack(1, 1, 5), &[(5, 3), (5, 3)], 6, 2);
+    expect_refused(&rack(1, 1, 5), &[(5, 3), (5, 3)], 6, 2);
 }
 
 #[test]
@@ -229,4 +251,62 @@ fn left_films_of_amount_0_stand_among_the_others() {
     let list = [(9, 2), (5, 0), (3, 5), (7, 1)];
     let left = [(3, 5), (5, 0), (9, 2)];
     expect(rack(1, 1, 1), &list, &[&[(7, 1)]], &left, (1, 7));
+}
+
+#[test]
+fn the_disk_with_fewer_slots_is_filled_first() {
+    let disks: [&[Pair]; 2] = [&[(2, 3), (3, 5)], &[(1, 3), (2, 1)]];
+    expect(rack_mixed(), &LIST_MIXED, &disks, &[], (12, 0));
+}
+
+#[test]
+fn unequal_disks_are_written() {
+    expect_written(&rack_mixed(), &LIST_MIXED, 0, TEXT_MIXED);
+}
+
+#[test]
+fn unequal_disks_are_read() {
+    let answer = ReadPlan {
+        disks: 2,
+        served: 12,
+        ..ReadPlan::default()
+    };
+    expect_read(&rack_mixed(), &LIST_MIXED, TEXT_MIXED, answer);
+}
+
+#[test]
+fn disks_with_equal_slots_are_filled_by_number() {
+    // Disk 1 takes two viewers of film 2, disk 3 two of film 3, and then disk 2 the rest.
+    let rack = vec![disk(1, 2), disk(2, 4), disk(1, 2)];
+    let list = [(1, 1), (2, 3), (3, 5)];
+    let disks: [&[Pair]; 3] = [&[(2, 2)], &[(2, 1), (3, 3)], &[(3, 2)]];
+    expect(rack, &list, &disks, &[(1, 1)], (8, 1));
+}
+
+#[test]
+fn shelf_copies_go_by_number_whatever_the_slots() {
+    let rack = vec![disk(2, 4), disk(1, 2)];
+    let list = [(7, 0), (1, 2), (6, 0), (5, 0)];
+    let disks: [&[Pair]; 2] = [&[(5, 0), (6, 0)], &[(1, 2)]];
+    expect(rack, &list, &disks, &[(7, 0)], (2, 0));
+}
+
+#[test]
+fn copies_begin_after_the_slots_of_all_disks_before() {
+    let rack = [disk(1, 3), disk(3, 9), disk(2, 6)];
+    let list = records(&[(4, 3), (5, 6), (6, 9)]);
+    for (name, planner) in PLANNERS {
+        let mut tables = OwnTables {
+            copies: vec![Entry::new(8, 8); 7],
+            counts: vec![8; 4],
+            left: vec![Entry::new(8, 8); 3],
+        };
+        assert_eq!(planner(&rack, &list, tables.lend()).served, 18, "{name}");
+        // Disk 1 at place 0, disk 2 from 1 on, disk 3 from 4 on; place 6 is beyond.
+        let copies = [(4, 3), (6, 9), (0, 0), (0, 0), (5, 6), (0, 0), (8, 8)];
+        let copies = copies.map(|(film, viewers)| Entry::new(film, viewers));
+        assert_eq!(tables.copies, copies, "{name}");
+        assert_eq!(tables.counts, [1, 1, 1, 8], "{name}");
+        assert_eq!(tables.left, [Entry::default(); 3], "{name}");
+    }
 }

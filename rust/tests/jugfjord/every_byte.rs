@@ -1,18 +1,18 @@
 //! Damage at every byte of some texts, through all readers.
 
-use jugfjord::rack::{Rack, Slots, MOST_SLOTS};
+use jugfjord::rack::Disk;
 use jugfjord::reference::plan::Plan;
 use jugfjord::reference::reader::plan_of;
 use jugfjord::reference::writer::text_of;
 
-use crate::cases::TEXT_A;
+use crate::cases::{TEXT_A, TEXT_MIXED};
 use crate::dice::Dice;
-use crate::guarded::Need;
-use crate::reading::{check, Case};
+use crate::reading::{check, Case, Lent};
 use crate::tally::Tally;
 
-const SHORT_TEXTS: [&str; 5] = [
+const SHORT_TEXTS: [&str; 7] = [
     TEXT_A,
+    TEXT_MIXED,
     "(rack 1 2 5)\n(disk 1 (7 4))\n(left (3 9))\n(served 4 9)\n",
     "(rack 2 1 2)\n(disk 1)\n(disk 2)\n(left)\n(served 0 0)\n",
     "(rack 3 2 65535)
@@ -35,6 +35,14 @@ const SHORT_TEXTS: [&str; 5] = [
 (disk 10 (10 0) (11 1) (12 0))
 (left (9 0) (10 1000000))
 (served 71 1000000)
+",
+    "(mixed (10 50) (1 5) (10 50) (32 160))
+(disk 1 (7 0))
+(disk 2 (65535 5))
+(disk 3)
+(disk 4 (9 100) (10 60))
+(left (9 1))
+(served 165 1)
 ",
 ];
 
@@ -65,6 +73,8 @@ fn readers_agree_on_damage_at_every_byte() {
         damage(text.as_bytes(), 1, 255, &mut tally);
     }
     damage(text_of(&Plan::largest()).as_bytes(), 211, 1, &mut tally);
+    let mixed = text_of(&Plan::largest_mixed());
+    damage(mixed.as_bytes(), 211, 1, &mut tally);
     tally.close(&[
         ("damaged text", 300_000),
         ("byte replaced", 140_000),
@@ -76,7 +86,8 @@ fn readers_agree_on_damage_at_every_byte() {
         ("accepted", 1_000),
         ("accepted with 0 viewers", 100),
         ("accepted with amount 0", 100),
-        ("line of the rack", 10_000),
+        ("line of the rack", 20_000),
+        ("unequal disks", 300),
         ("line of a disk", 10_000),
         ("line of the left films", 10_000),
         ("line of the sums", 10_000),
@@ -87,15 +98,12 @@ fn readers_agree_on_damage_at_every_byte() {
 /// Does each damage to the text at every so many places, with at most so many changes.
 fn damage(text: &[u8], step: usize, most: u8, tally: &mut Tally) {
     let plan = plan_of(text).expect("a text before its damage is right");
-    // Such damage may make a right text of other slots, but none of other disks.
-    let rack = Rack {
-        slots: Slots(MOST_SLOTS),
-        ..plan.rack
-    };
+    // Such damage may make a right text of other slots, but none of more disks.
+    let rack = vec![Disk::largest(); plan.rack.len()];
     let mut case = Case {
         text: Vec::new(),
-        tables: Need::new(rack, plan.left.len()).met(&mut Dice::new(4)),
-        disks: rack.disks,
+        lent: Lent::met(&mut Dice::new(4), &rack, plan.left.len()),
+        disks: rack.len() as u32,
     };
     for at in (0..text.len()).step_by(step) {
         for (name, changes, damage) in DAMAGES {

@@ -1,6 +1,6 @@
 //! Tables and spaces with sentinels in and around them, so that every place can be compared.
 
-use jugfjord::rack::Rack;
+use jugfjord::rack::{places, Disk};
 use jugfjord::tables::{Entry, Tables};
 
 use crate::dice::Dice;
@@ -19,7 +19,7 @@ impl<T> Guarded<T> {
     }
 
     /// Takes away the places from this one on, if there are any.
-    fn shorten(&mut self, len: usize) {
+    pub fn shorten(&mut self, len: usize) {
         let end = self.0.len() - GUARD;
         self.0.drain(end.min(GUARD + len)..end);
     }
@@ -49,10 +49,10 @@ pub struct Need {
 }
 
 impl Need {
-    pub fn new(rack: Rack, left: usize) -> Self {
+    pub fn new(rack: &[Disk], left: usize) -> Self {
         Need {
-            copies: rack.places(),
-            counts: rack.disks as usize,
+            copies: places(rack),
+            counts: rack.len(),
             left,
         }
     }
@@ -85,16 +85,21 @@ impl Need {
         if need == 0 {
             return false;
         }
-        let len = if dice.one_in(4) {
-            dice.below(need)
-        } else {
-            need - 1
-        };
+        let len = too_short(dice, need);
         match table {
             0 => tables.copies.shorten(len),
             1 => tables.counts.shorten(len),
             _ => tables.left.shorten(len),
         }
         true
+    }
+}
+
+/// A length below what is needed, mostly by one place.
+pub fn too_short(dice: &mut Dice, need: usize) -> usize {
+    if dice.one_in(4) {
+        dice.below(need)
+    } else {
+        need - 1
     }
 }

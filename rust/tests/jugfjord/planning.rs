@@ -1,12 +1,14 @@
-//! Random lists through all planners.
+//! Random lists on equal and unequal disks through all planners.
 
 use jugfjord::ffi::Planned;
-use jugfjord::rack::RECORD;
+use jugfjord::rack::{places, RECORD};
+use jugfjord::reference::planner;
 use jugfjord::tables::{Entry, TablesView};
 
 use crate::dice::Dice;
 use crate::guarded::{GuardedTables, Need};
 use crate::lists::{good, Case, FAULTS, KINDS};
+use crate::racks::{equal, mixed, mixed_least, tally_rack, three_numbers, Racks, WRONG_RACKS};
 use crate::shelf::Shelf;
 use crate::subjects::PLANNERS;
 use crate::tally::Tally;
@@ -14,20 +16,41 @@ use crate::tally::Tally;
 const LISTS: usize = 200_000;
 
 #[test]
-fn planners_agree_on_random_lists() {
-    let mut dice = Dice::new(1);
-    let mut tally = Tally::new("planning");
+fn planners_agree_on_equal_disks() {
+    let mut tally = Tally::new("planning on equal disks");
+    run(Dice::new(1), equal, &mut tally);
+    tally.close(&[
+        ("equal disks", LISTS / 2),
+        ("one disk", 5_000),
+        ("as by three numbers", LISTS * 3 / 4),
+        ("as by three numbers, refused 12", 2_000),
+        ("largest rack", 500),
+    ]);
+}
+
+#[test]
+fn planners_agree_on_unequal_disks() {
+    let mut tally = Tally::new("planning on unequal disks");
+    run(Dice::new(5), mixed, &mut tally);
+    tally.close(&mixed_least(LISTS / 2));
+}
+
+/// Compares all planners on random lists and racks, counts what they met, and asserts that every
+/// kind of list and of fault was there.
+fn run(mut dice: Dice, racks: Racks, tally: &mut Tally) {
     for _ in 0..LISTS {
-        let case = random_case(&mut dice, &mut tally);
-        let (planned, after) = compare(&case);
+        let case = random_case(&mut dice, racks, tally);
+        let (planned, after) = compare(&case, tally);
         tally.answer(planned.number);
         if planned.number == 0 {
-            tally_shape(&case, &planned, &after, &mut tally);
+            tally_rack(&case.rack, tally);
+            tally_shape(&case, &planned, &after, tally);
         }
     }
     let mut least = vec![
         ("accepted", LISTS / 2),
-        ("refused 1", 2_000),
+        ("refused 12", 4_000),
+        ("refused 13", 1_000),
         ("refused 2", 2_000),
         ("refused 3", 2_000),
         ("refused 4", 2_000),
@@ -37,7 +60,6 @@ fn planners_agree_on_random_lists() {
         ("some film left", 20_000),
         ("nothing left", 20_000),
         ("one stream", 2_000),
-        ("largest rack", 500),
         ("1,024 records", 500),
         ("no record", 500),
         ("no film of demand 0", 20_000),
@@ -52,13 +74,15 @@ fn planners_agree_on_random_lists() {
     ];
     least.extend(KINDS.map(|(name, _)| (name, 20_000)));
     least.extend(FAULTS.map(|(name, _)| (name, 5_000)));
-    tally.close(&least);
+    least.extend(WRONG_RACKS.map(|(name, _, _)| (name, 1_000)));
+    tally.assert_met(&least);
 }
 
 /// A list of some kind. A third have a fault, and some of these have two.
-fn random_case(dice: &mut Dice, tally: &mut Tally) -> Case {
+fn random_case(dice: &mut Dice, racks: Racks, tally: &mut Tally) -> Case {
     let (name, kind) = dice.pick(&KINDS);
-    let (mut case, need) = good(dice, kind);
+    let rack = racks(dice);
+    let (mut case, need) = good(dice, rack, kind);
     tally.count(name);
     if dice.one_in(3) {
         for _ in 0..dice.pick(&[1, 1, 1, 2]) {
@@ -67,17 +91,24 @@ fn random_case(dice: &mut Dice, tally: &mut Tally) -> Case {
             tally.count(name);
         }
     }
+    if dice.one_in(16) {
+        let (name, _, wrong) = dice.pick(&WRONG_RACKS);
+        wrong(dice, &mut case.rack);
+        tally.count(name);
+    }
     case
 }
 
-/// Runs all planners on the case and compares their answers and every place.
-fn compare(case: &Case) -> (Planned, GuardedTables) {
+/// Runs all planners on the case and compares their answers and every place. Where all disks are
+/// equal, so does the planner that takes three numbers.
+fn compare(case: &Case, tally: &mut Tally) -> (Planned, GuardedTables) {
     let mut expected = case.tables.clone();
-    let answer = PLANNERS[0].1(case.rack, &case.list, expected.lend());
+    let answer = PLANNERS[0].1(&case.rack, &case.list, expected.lend());
     check_rules(case, &answer, &expected);
+    compare_three_numbers(case, &answer, &expected, tally);
     for (name, planner) in &PLANNERS[1..] {
         let mut tables = case.tables.clone();
-        let planned = planner(case.rack, &case.list, tables.lend());
+        let planned = planner(&case.rack, &case.list, tables.lend());
         assert_eq!(planned, answer, "{name} on {:?} {:?}", case.rack, case.list);
         assert!(
             tables == expected,
@@ -89,6 +120,30 @@ fn compare(case: &Case) -> (Planned, GuardedTables) {
     (answer, expected)
 }
 
+/// Asserts that a rack of equal disks has the plan, or the refusal, that its three numbers have. In
+/// the place of 12 they have 1.
+fn compare_three_numbers(
+    case: &Case,
+    answer: &Planned,
+    expected: &GuardedTables,
+    tally: &mut Tally,
+) {
+    let Some(rack) = three_numbers(&case.rack) else {
+        return;
+    };
+    let mut tables = case.tables.clone();
+    let planned = planner::plan(rack, &case.list, tables.lend());
+    tally.count("as by three numbers");
+    if answer.number == 12 {
+        tally.count("as by three numbers, refused 12");
+        let number = 1;
+        assert_eq!(planned, Planned { number, ..*answer });
+    } else {
+        assert_eq!(planned, *answer, "{rack:?} {:?}", case.list);
+    }
+    assert!(tables == *expected, "{rack:?} {:?}: {tables:?}", case.list);
+}
+
 /// What holds of any answer: a refusal changes nothing, places beyond are untouched, and
 /// the sums are those of the tables and of the list.
 fn check_rules(case: &Case, planned: &Planned, after: &GuardedTables) {
@@ -96,11 +151,10 @@ fn check_rules(case: &Case, planned: &Planned, after: &GuardedTables) {
         assert_eq!(after, &case.tables);
         return;
     }
-    let places = case.rack.places();
     let count = case.list.len() / RECORD;
-    Need::new(case.rack, count).assert_rest_same(&case.tables, after);
+    Need::new(&case.rack, count).assert_rest_same(&case.tables, after);
     let view = after.view();
-    assert_eq!(planned.served, sum(&view.copies[..places]));
+    assert_eq!(planned.served, sum(&view.copies[..places(&case.rack)]));
     assert_eq!(planned.unserved, sum(&view.left[..count]));
     let total: u64 = demands(&case.list).sum();
     assert_eq!(planned.served + planned.unserved, total);
@@ -109,11 +163,11 @@ fn check_rules(case: &Case, planned: &Planned, after: &GuardedTables) {
 
 /// Each film of demand 0 is stored or left, and none is left while a slot is free.
 fn check_shelf(case: &Case, planned: &Planned, tables: &TablesView) {
-    let shelf = Shelf::of(case.rack, tables, planned.left);
+    let shelf = Shelf::of(&case.rack, tables, planned.left);
     let unwanted = demands(&case.list).filter(|&demand| demand == 0).count();
     assert_eq!(shelf.copies + shelf.left, unwanted);
-    let mut counts = tables.counts[..case.rack.disks as usize].iter();
-    assert!(shelf.left == 0 || counts.all(|&count| count == case.rack.slots.0));
+    let mut disks = case.rack.iter().zip(tables.counts);
+    assert!(shelf.left == 0 || disks.all(|(disk, &count)| count == disk.slots.0));
 }
 
 fn sum(entries: &[Entry]) -> u64 {
@@ -128,14 +182,13 @@ fn demands(list: &[u8]) -> impl Iterator<Item = u64> + '_ {
 
 /// Counts what kind of call was accepted, and what the tables hold after it.
 fn tally_shape(case: &Case, planned: &Planned, after: &GuardedTables, tally: &mut Tally) {
-    let shelf = Shelf::of(case.rack, &after.view(), planned.left);
+    let shelf = Shelf::of(&case.rack, &after.view(), planned.left);
     tally.count(match planned.left {
         0 => "nothing left",
         _ => "some film left",
     });
     tally.count_met(&[
-        ("one stream", case.rack.streams.0 == 1),
-        ("largest rack", case.rack.places() == 2_048),
+        ("largest rack", places(&case.rack) == 2_048),
         ("1,024 records", case.list.len() == 8_192),
         ("no record", case.list.is_empty()),
         ("no film of demand 0", shelf.copies + shelf.left == 0),

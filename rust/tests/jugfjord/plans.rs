@@ -1,15 +1,16 @@
 //! Random plans: well formed, and wrong in each way that document 01 names.
 
-use jugfjord::rack::{Rack, LAST_FILM, MOST_DEMAND, MOST_RECORDS, MOST_SLOTS};
+use jugfjord::rack::{Disk, LAST_FILM, MOST_DEMAND, MOST_RECORDS};
 use jugfjord::reference::plan::{Pair, Plan};
 
 use crate::dice::Dice;
-use crate::lists::{bad_rack, films, rack};
+use crate::lists::films;
+use crate::racks::{Racks, WRONG_RACKS};
 
-/// A well-formed plan. Few come from the method.
-pub fn good(dice: &mut Dice) -> Plan {
-    let rack = rack(dice);
-    let disks = (0..rack.disks).map(|_| disk(dice, rack)).collect();
+/// A well-formed plan on such a rack. Few come from the method.
+pub fn good(dice: &mut Dice, racks: Racks) -> Plan {
+    let rack = racks(dice);
+    let disks = rack.iter().map(|&entry| disk(dice, entry)).collect();
     let count = match dice.below(100) {
         0 => MOST_RECORDS,
         1..=30 => 0,
@@ -21,12 +22,12 @@ pub fn good(dice: &mut Dice) -> Plan {
 
 /// Copies with at most the load in sum, and often just the load. Some have no viewers, in any
 /// place of the disk.
-fn disk(dice: &mut Dice, rack: Rack) -> Vec<Pair> {
-    let count = dice.within(0, rack.slots.0);
-    let most = count.min(rack.streams.0);
+fn disk(dice: &mut Dice, disk: Disk) -> Vec<Pair> {
+    let count = dice.within(0, disk.slots.0);
+    let most = count.min(disk.streams.0);
     let least = dice.pick(&[0, most]);
     let watched = dice.within(least, most);
-    let mut viewers = viewers(dice, watched, rack.streams.0);
+    let mut viewers = viewers(dice, watched, disk.streams.0);
     viewers.resize(count as usize, 0);
     dice.shuffle(&mut viewers);
     films(dice, count as usize)
@@ -86,8 +87,9 @@ pub const WRONG: [(&str, Wrong); 12] = [
         Some(())
     }),
     ("one viewer above the load", |dice, plan| {
-        let load = plan.rack.streams.0;
-        let copies = &mut *plan.disks.iter_mut().find(|copies| !copies.is_empty())?;
+        let mut disks = plan.disks.iter_mut().zip(&plan.rack);
+        let (copies, disk) = disks.find(|(copies, _)| !copies.is_empty())?;
+        let load = disk.streams.0;
         let others: u32 = copies[1..].iter().map(|copy| copy.1).sum();
         copies[0].1 = load - others + dice.pick(&[1, 1, 65_536]);
         Some(())
@@ -153,11 +155,12 @@ fn repeat_film<'a>(dice: &mut Dice, plan: &'a mut Plan) -> Option<&'a mut Pair> 
 /// Wrong plans that only a text can show.
 pub const WRONG_SHAPE: [(&str, Wrong); 4] = [
     ("more copies than slots", |dice, plan| {
-        let slots = plan.rack.slots.0;
-        plan.rack.streams.0 = plan.rack.streams.0.max(MOST_SLOTS + 1);
-        let viewers = dice.pick(&[0, 1]);
-        let copies = films(dice, slots as usize + 1).into_iter();
-        *plan.disks.last_mut()? = copies.map(|film| (film, viewers)).collect();
+        let at = dice.below(plan.disks.len());
+        let Disk { slots, streams } = plan.rack[at];
+        let most = u32::from(slots.0 < streams.0);
+        let viewers = dice.within(0, most);
+        let copies = films(dice, slots.0 as usize + 1).into_iter();
+        plan.disks[at] = copies.map(|film| (film, viewers)).collect();
         Some(())
     }),
     ("a disk too few", |_, plan| plan.disks.pop().map(|_| ())),
@@ -165,8 +168,9 @@ pub const WRONG_SHAPE: [(&str, Wrong); 4] = [
         plan.disks.push(Vec::new());
         Some(())
     }),
-    ("rack out of range", |dice, plan| {
-        plan.rack = bad_rack(dice, plan.rack);
+    ("wrong rack", |dice, plan| {
+        let (_, _, wrong) = dice.pick(&WRONG_RACKS);
+        wrong(dice, &mut plan.rack);
         Some(())
     }),
 ];

@@ -1,7 +1,7 @@
 //! Valid and damaged texts through all readers, and what was read through all writers.
 
 use jugfjord::ffi::ReadPlan;
-use jugfjord::rack::{Rack, Slots, Streams};
+use jugfjord::rack::{Disk, Slots, Streams, MOST_DISKS};
 use jugfjord::reference::plan::Plan;
 use jugfjord::reference::reader::plan_of;
 use jugfjord::reference::writer::text_of;
@@ -9,10 +9,11 @@ use jugfjord::tables::Tables;
 
 use crate::damage::{fill_up, DAMAGES, LENGTHS};
 use crate::dice::Dice;
-use crate::guarded::{GuardedTables, Need};
+use crate::guarded::{too_short, Guarded, GuardedTables, Need};
 use crate::plans::{good, WRONG, WRONG_SHAPE};
+use crate::racks::{equal, mixed, mixed_least, tally_rack, Racks};
 use crate::shelf::Shelf;
-use crate::subjects::{JUDGES, READERS, WRITERS};
+use crate::subjects::{Reader, JUDGES, READERS, WRITERS};
 use crate::tally::Tally;
 
 const TEXTS: usize = 200_000;
@@ -20,21 +21,65 @@ const TEXTS: usize = 200_000;
 /// One call of reading, and how many disks the undamaged text had.
 pub struct Case {
     pub text: Vec<u8>,
-    pub tables: GuardedTables,
+    pub lent: Lent,
     pub disks: u32,
 }
 
+/// What reading is lent besides the text.
+#[derive(Clone, Debug, PartialEq, Eq)]
+pub struct Lent {
+    pub rack: Guarded<Disk>,
+    pub tables: GuardedTables,
+}
+
+impl Lent {
+    /// Sentinels, as many as this rack and so many left films need, or more.
+    pub fn met(dice: &mut Dice, rack: &[Disk], left: usize) -> Self {
+        let most = dice.pick(&[0, 4]);
+        let len = rack.len() + dice.within(0, most) as usize;
+        let mut number = || dice.next() as u32;
+        Lent {
+            rack: Guarded::new(len, || Disk::new(Slots(number()), Streams(number()))),
+            tables: Need::new(rack, left).met(dice),
+        }
+    }
+
+    /// What a reader answers.
+    fn read(&mut self, reader: Reader, text: &[u8]) -> ReadPlan {
+        reader(text, self.rack.as_mut(), self.tables.lend())
+    }
+}
+
 #[test]
-fn readers_agree_on_valid_and_damaged_texts() {
-    let mut dice = Dice::new(2);
-    let mut tally = Tally::new("reading");
+fn readers_agree_on_texts_of_equal_disks() {
+    let mut tally = Tally::new("reading of equal disks");
+    run(Dice::new(2), equal, &mut tally);
+    tally.close(&[
+        ("equal disks", 40_000),
+        ("one disk", 5_000),
+        ("equal disks in a mixed line", 2_000),
+    ]);
+}
+
+#[test]
+fn readers_agree_on_texts_of_unequal_disks() {
+    let mut tally = Tally::new("reading of unequal disks");
+    run(Dice::new(6), mixed, &mut tally);
+    tally.close(&mixed_least(40_000));
+    tally.assert_met(&[("unequal disks in a line of three numbers", 2_000)]);
+}
+
+/// Checks all readers on random texts, counts what they met, and asserts that every kind of text
+/// and of damage was there.
+fn run(mut dice: Dice, racks: Racks, tally: &mut Tally) {
     for _ in 0..TEXTS {
-        let case = random_case(&mut dice, &mut tally);
-        check(&case, &mut tally);
+        let case = random_case(&mut dice, racks, tally);
+        check(&case, tally);
     }
     let mut least = vec![
         ("accepted", 40_000),
         ("refused 7", 5_000),
+        ("refused 7, rack too short", 1_000),
         ("refused 8", 300),
         ("refused 9", 80_000),
         ("line of the rack", 5_000),
@@ -50,15 +95,16 @@ fn readers_agree_on_valid_and_damaged_texts() {
     least.extend(DAMAGES.map(|(name, _)| (name, 5_000)));
     least.extend(WRONG.map(|(name, _)| (name, 50)));
     least.extend(WRONG_SHAPE.map(|(name, _)| (name, 1_000)));
-    tally.close(&least);
+    tally.assert_met(&least);
 }
 
-/// A text: undamaged, of a wrong plan, with a damage, or filled up to a length.
-fn random_case(dice: &mut Dice, tally: &mut Tally) -> Case {
-    let plan = good(dice);
-    let need = Need::new(plan.rack, plan.left.len());
-    let disks = plan.rack.disks;
-    let mut tables = need.met(dice);
+/// A text: undamaged, of a wrong plan, with another first line, with a damage, or filled up to a
+/// length.
+fn random_case(dice: &mut Dice, racks: Racks, tally: &mut Tally) -> Case {
+    let plan = good(dice, racks);
+    let need = Need::new(&plan.rack, plan.left.len());
+    let disks = plan.rack.len();
+    let mut lent = Lent::met(dice, &plan.rack, plan.left.len());
     let text = match dice.below(200) {
         0..=59 => text_of(&plan).into_bytes(),
         60..=99 => wrong_text(dice, plan, tally),
@@ -68,16 +114,36 @@ fn random_case(dice: &mut Dice, tally: &mut Tally) -> Case {
             fill_up(dice, &mut text, len);
             text
         }
+        101..=105 => other_first_line(&plan, tally),
         _ => damaged_text(dice, &plan, tally),
     };
     if dice.one_in(8) {
-        need.miss(dice, &mut tables);
+        need.miss(dice, &mut lent.tables);
+    }
+    if dice.one_in(32) {
+        lent.rack.shorten(too_short(dice, disks));
     }
     Case {
         text,
-        tables,
-        disks,
+        lent,
+        disks: disks as u32,
     }
+}
+
+/// The text with the first line that racks of the other kind have.
+fn other_first_line(plan: &Plan, tally: &mut Tally) -> Vec<u8> {
+    let text = text_of(plan);
+    let (first, rest) = text.split_once('\n').expect("a first line");
+    let Disk { slots, streams } = plan.rack[0];
+    let other = if first.starts_with("(rack ") {
+        tally.count("equal disks in a mixed line");
+        let pair = format!(" ({} {})", slots.0, streams.0);
+        format!("(mixed{})", pair.repeat(plan.rack.len()))
+    } else {
+        tally.count("unequal disks in a line of three numbers");
+        format!("(rack {} {} {})", plan.rack.len(), slots.0, streams.0)
+    };
+    format!("{other}\n{rest}").into_bytes()
 }
 
 /// The text that a plan would have if it were well formed.
@@ -108,24 +174,26 @@ pub fn check(case: &Case, tally: &mut Tally) {
     tally_line(case, &read, tally);
     match read.number {
         0 => {
-            let rack = Rack::new(read.disks, Slots(read.slots), Streams(read.streams));
-            write_back(case, rack, read.left, &after);
-            Shelf::of(rack, &after.view(), read.left).tally(tally);
+            let (rack, rest) = after.rack.as_ref().split_at(read.disks as usize);
+            assert_eq!(rest, &case.lent.rack.as_ref()[rack.len()..]);
+            write_back(case, rack, read.left, &after.tables);
+            tally_rack(rack, tally);
+            Shelf::of(rack, &after.tables.view(), read.left).tally(tally);
         }
-        _ => assert_eq!(after, case.tables),
+        _ => assert_eq!(after, case.lent),
     }
 }
 
 /// Runs all readers on the case and compares their answers and every place.
-fn compare(case: &Case) -> (ReadPlan, GuardedTables) {
+fn compare(case: &Case) -> (ReadPlan, Lent) {
     let shown = || String::from_utf8_lossy(&case.text);
-    let mut expected = case.tables.clone();
-    let answer = READERS[0].1(&case.text, expected.lend());
+    let mut expected = case.lent.clone();
+    let answer = expected.read(READERS[0].1, &case.text);
     for (name, reader) in &READERS[1..] {
-        let mut tables = case.tables.clone();
-        let read = reader(&case.text, tables.lend());
+        let mut lent = case.lent.clone();
+        let read = lent.read(*reader, &case.text);
         assert_eq!(read, answer, "{name} on {:?}", shown());
-        assert!(tables == expected, "{name} on {:?}: {tables:?}", shown());
+        assert!(lent == expected, "{name} on {:?}: {lent:?}", shown());
     }
     (answer, expected)
 }
@@ -133,7 +201,10 @@ fn compare(case: &Case) -> (ReadPlan, GuardedTables) {
 /// Asserts that judges answer what reading answers where every table is long enough.
 fn judge(case: &Case, read: &ReadPlan) {
     let answer = match read.number {
-        7 => READERS[0].1(&case.text, Tables::for_any_plan().lend()),
+        7 => {
+            let mut rack = [Disk::default(); MOST_DISKS as usize];
+            READERS[0].1(&case.text, &mut rack, Tables::for_any_plan().lend())
+        }
         _ => *read,
     };
     for (name, judge) in JUDGES {
@@ -144,8 +215,8 @@ fn judge(case: &Case, read: &ReadPlan) {
 
 /// Asserts that the rest of the tables is untouched, and that each writer makes the text again
 /// from what was read.
-fn write_back(case: &Case, rack: Rack, left: u32, after: &GuardedTables) {
-    Need::new(rack, left as usize).assert_rest_same(&case.tables, after);
+fn write_back(case: &Case, rack: &[Disk], left: u32, after: &GuardedTables) {
+    Need::new(rack, left as usize).assert_rest_same(&case.lent.tables, after);
     for (name, writer) in WRITERS {
         let mut text = vec![0; case.text.len()];
         let written = writer(rack, after.view(), left, &mut text);
@@ -161,6 +232,9 @@ fn tally_line(case: &Case, read: &ReadPlan, tally: &mut Tally) {
         65_536 => tally.count("65,536 bytes"),
         65_537 => tally.count("65,537 bytes"),
         _ => {}
+    }
+    if read.number == 7 && case.lent.rack.as_ref().len() < case.disks as usize {
+        tally.count("refused 7, rack too short");
     }
     if read.number == 9 {
         tally.count(match read.second {

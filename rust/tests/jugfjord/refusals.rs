@@ -4,8 +4,8 @@ use std::error::Error;
 
 use jugfjord::refusal::Refusal;
 
-/// Each refusal of document 01, with a second number where it has one.
-const WORDS: [(u32, u32, &str); 11] = [
+/// Each refusal of documents 01 and 02, with a second number where it has one.
+const WORDS: [(u32, u32, &str); 13] = [
     (1, 0, "a number of the rack is out of range (refused 1)"),
     (2, 0, "list length is no multiple of 8 (refused 2)"),
     (3, 0, "the list has more than 1024 records (refused 3)"),
@@ -16,7 +16,7 @@ const WORDS: [(u32, u32, &str); 11] = [
     ),
     (5, 7, "demand is outside 0 to 1000000 (refused 5, record 7)"),
     (6, 2, "film is in the list twice (refused 6, record 2)"),
-    (7, 0, "a lent table is too short (refused 7)"),
+    (7, 0, "a lent table or rack is too short (refused 7)"),
     (8, 0, "the text has more than 65536 bytes (refused 8)"),
     (
         9,
@@ -29,6 +29,16 @@ const WORDS: [(u32, u32, &str); 11] = [
         "the plan in the tables is not well formed (refused 10)",
     ),
     (11, 0, "the space for the text is too short (refused 11)"),
+    (
+        12,
+        0,
+        "the number of disks, or a disk, is out of range (refused 12)",
+    ),
+    (
+        13,
+        3,
+        "the ratio of streams to slots is not that of disk 1 (refused 13, disk 3)",
+    ),
 ];
 
 #[test]
@@ -51,7 +61,7 @@ fn a_refusal_names_the_value_that_it_is_about() {
 
 #[test]
 fn a_number_without_words_is_still_named() {
-    for number in [0, 12, u32::MAX] {
+    for number in [0, 14, u32::MAX] {
         let words = Refusal::plain(number).to_string();
         assert!(words.ends_with(&format!(" (refused {number})")), "{words}");
     }

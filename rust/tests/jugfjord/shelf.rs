@@ -1,6 +1,6 @@
 //! Shelf copies in the tables of a plan: copies with 0 viewers, and left films of amount 0.
 
-use jugfjord::rack::Rack;
+use jugfjord::rack::Disk;
 use jugfjord::tables::{Entry, TablesView};
 
 use crate::tally::Tally;
@@ -21,14 +21,11 @@ pub struct Shelf {
 
 impl Shelf {
     /// What the tables of a plan with so many left films hold.
-    pub fn of(rack: Rack, tables: &TablesView, left: u32) -> Self {
-        let places = tables.copies.chunks(rack.slots.0 as usize);
-        let disks: Vec<&[Entry]> = places
-            .zip(&tables.counts[..rack.disks as usize])
-            .map(|(places, &count)| &places[..count as usize])
-            .collect();
+    pub fn of(rack: &[Disk], tables: &TablesView, left: u32) -> Self {
+        let disks = copies(rack, tables);
         let shelf: Vec<usize> = disks.iter().map(|copies| zeros(copies)).collect();
-        let is_full = |disk: usize| disks[disk].len() == rack.slots.0 as usize && shelf[disk] == 0;
+        let is_full =
+            |disk: usize| disks[disk].len() == rack[disk].slots.0 as usize && shelf[disk] == 0;
         let is_shelf = |&copies: &usize| copies > 0;
         let last = shelf.iter().rposition(is_shelf).unwrap_or(0);
         let first = shelf.iter().position(is_shelf).unwrap_or(0);
@@ -50,6 +47,18 @@ impl Shelf {
             ("accepted with amount 0", self.left > 0),
         ]);
     }
+}
+
+/// The copies of each disk.
+fn copies<'a>(rack: &[Disk], tables: &TablesView<'a>) -> Vec<&'a [Entry]> {
+    let mut rest = tables.copies;
+    let mut disks = Vec::new();
+    for (disk, &count) in rack.iter().zip(tables.counts) {
+        let (own, behind) = rest.split_at(disk.slots.0 as usize);
+        disks.push(&own[..count as usize]);
+        rest = behind;
+    }
+    disks
 }
 
 /// How many entries have amount 0.

@@ -1,20 +1,20 @@
 //! What is tested: the library, where it is linked, and the plain Rust modules.
 
 use jugfjord::ffi::{Planned, ReadPlan, Written};
-use jugfjord::rack::Rack;
-use jugfjord::reference::{fast_reader, fast_writer, planner, reader, rolling, writer};
+use jugfjord::rack::Disk;
+use jugfjord::reference::{fast_reader, fast_writer, mixed_planner, reader, rolling, writer};
 use jugfjord::tables::{LentTables, TablesView};
 #[cfg(feature = "library")]
 use jugfjord::wrap;
 
-pub type Planner = fn(Rack, &[u8], LentTables) -> Planned;
-pub type Writer = fn(Rack, TablesView, u32, &mut [u8]) -> Written;
-pub type Reader = fn(&[u8], LentTables) -> ReadPlan;
+pub type Planner = fn(&[Disk], &[u8], LentTables) -> Planned;
+pub type Writer = fn(&[Disk], TablesView, u32, &mut [u8]) -> Written;
+pub type Reader = fn(&[u8], &mut [Disk], LentTables) -> ReadPlan;
 pub type Judge = fn(&[u8]) -> ReadPlan;
 
 /// The first of each is the one that the others are compared with.
 pub const PLANNERS: &[(&str, Planner)] = &[
-    ("planner", planner::plan),
+    ("mixed planner", mixed_planner::plan),
     ("rolling", rolling::plan),
     ("rolling by insertion", rolling::plan_by_insertion),
     #[cfg(feature = "library")]

@@ -36,6 +36,11 @@ impl Tally {
         for (what, count) in &self.counts {
             println!("  {what}: {count}");
         }
+        self.assert_met(least);
+    }
+
+    /// Asserts that each of these was met so often.
+    pub fn assert_met(&self, least: &[(&str, usize)]) {
         for (what, least) in least {
             let met = self.counts.get(*what).copied().unwrap_or(0);
             assert!(met >= *least, "{what}: met {met} times, not {least}");

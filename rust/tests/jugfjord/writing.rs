@@ -1,15 +1,15 @@
 //! Well-formed and wrong plans through all writers, into spaces of all lengths.
 
 use jugfjord::ffi::Written;
-use jugfjord::rack::Rack;
+use jugfjord::rack::{places, Disk};
 use jugfjord::reference::plan::Plan;
 use jugfjord::reference::writer::text_of;
 use jugfjord::tables::Entry;
 
 use crate::dice::Dice;
 use crate::guarded::{Guarded, GuardedTables, Need};
-use crate::lists::bad_rack;
 use crate::plans::{good, WRONG};
+use crate::racks::{equal, mixed, mixed_least, tally_rack, Racks, WRONG_RACKS};
 use crate::shelf::Shelf;
 use crate::subjects::WRITERS;
 use crate::tally::Tally;
@@ -18,22 +18,36 @@ const PLANS: usize = 100_000;
 
 /// One call of writing.
 struct Case {
-    rack: Rack,
+    rack: Vec<Disk>,
     tables: GuardedTables,
     left: u32,
     space: Guarded<u8>,
 }
 
 #[test]
-fn writers_agree_on_right_and_wrong_plans() {
-    let mut dice = Dice::new(3);
-    let mut tally = Tally::new("writing");
+fn writers_agree_on_plans_of_equal_disks() {
+    let mut tally = Tally::new("writing of equal disks");
+    run(Dice::new(3), equal, &mut tally);
+    tally.close(&[("equal disks", 20_000), ("one disk", 2_000)]);
+}
+
+#[test]
+fn writers_agree_on_plans_of_unequal_disks() {
+    let mut tally = Tally::new("writing of unequal disks");
+    run(Dice::new(7), mixed, &mut tally);
+    tally.close(&mixed_least(20_000));
+}
+
+/// Compares all writers on random plans, counts what they met, and asserts that every kind of
+/// wrong plan was there.
+fn run(mut dice: Dice, racks: Racks, tally: &mut Tally) {
     for _ in 0..PLANS {
-        let (case, expected) = random_case(&mut dice, &mut tally);
+        let (case, expected) = random_case(&mut dice, racks, tally);
         let written = compare(&case);
         tally.answer(written.number);
         if written.number == 0 {
-            Shelf::of(case.rack, &case.tables.view(), case.left).tally(&mut tally);
+            tally_rack(&case.rack, tally);
+            Shelf::of(&case.rack, &case.tables.view(), case.left).tally(tally);
         }
         if let Some(number) = expected {
             assert_eq!(written.number, number);
@@ -41,7 +55,8 @@ fn writers_agree_on_right_and_wrong_plans() {
     }
     let mut least = vec![
         ("accepted", 20_000),
-        ("refused 1", 2_000),
+        ("refused 12", 2_000),
+        ("refused 13", 500),
         ("refused 7", 2_000),
         ("refused 10", 20_000),
         ("refused 11", 10_000),
@@ -51,12 +66,13 @@ fn writers_agree_on_right_and_wrong_plans() {
     ];
     least.extend(WRONG.map(|(name, _)| (name, 50)));
     least.extend(WRONG_TABLES.map(|(name, _)| (name, 1_000)));
-    tally.close(&least);
+    least.extend(WRONG_RACKS.map(|(name, _, _)| (name, 500)));
+    tally.assert_met(&least);
 }
 
 /// A call and, where one thing alone is wrong with it, the refusal that is due.
-fn random_case(dice: &mut Dice, tally: &mut Tally) -> (Case, Option<u32>) {
-    let mut plan = good(dice);
+fn random_case(dice: &mut Dice, racks: Racks, tally: &mut Tally) -> (Case, Option<u32>) {
+    let mut plan = good(dice, racks);
     let mut faults = Vec::new();
     if dice.one_in(3) {
         let (name, wrong) = dice.pick(&WRONG);
@@ -65,7 +81,7 @@ fn random_case(dice: &mut Dice, tally: &mut Tally) -> (Case, Option<u32>) {
             faults.push(10);
         }
     }
-    let need = Need::new(plan.rack, plan.left.len());
+    let need = Need::new(&plan.rack, plan.left.len());
     let mut case = stored(dice, &plan, need);
     if dice.one_in(6) {
         let (name, wrong) = dice.pick(&WRONG_TABLES);
@@ -74,7 +90,7 @@ fn random_case(dice: &mut Dice, tally: &mut Tally) -> (Case, Option<u32>) {
             faults.push(10);
         }
     }
-    faults.extend(wrong_call(dice, need, &mut case));
+    faults.extend(wrong_call(dice, need, &mut case, tally));
     faults.extend(choose_space(dice, &plan, &mut case, tally));
     let alone = match faults.as_slice() {
         [] => Some(0),
@@ -89,22 +105,24 @@ fn stored(dice: &mut Dice, plan: &Plan, need: Need) -> Case {
     let mut tables = need.met(dice);
     plan.store(&mut tables.lend());
     Case {
-        rack: plan.rack,
+        rack: plan.rack.clone(),
         tables,
         left: plan.left.len() as u32,
         space: Guarded::new(0, || 0),
     }
 }
 
-/// Sometimes a rack out of range, a table too short, or more left films than the table has.
-fn wrong_call(dice: &mut Dice, need: Need, case: &mut Case) -> Option<u32> {
+/// Sometimes a wrong rack, a table too short, or more left films than the table has.
+fn wrong_call(dice: &mut Dice, need: Need, case: &mut Case, tally: &mut Tally) -> Option<u32> {
     match dice.below(24) {
-        0 => {
-            case.rack = bad_rack(dice, case.rack);
-            Some(1)
+        0 | 1 => {
+            let (name, number, wrong) = dice.pick(&WRONG_RACKS);
+            wrong(dice, &mut case.rack);
+            tally.count(name);
+            Some(number)
         }
-        1 => need.miss(dice, &mut case.tables).then_some(7),
-        2 => {
+        2 => need.miss(dice, &mut case.tables).then_some(7),
+        3 => {
             let places = case.tables.view().left.len() as u32;
             case.left = dice.pick(&[places + 1, places.max(1_024) + 1, u32::MAX]);
             Some(7)
@@ -135,7 +153,7 @@ type WrongTables = fn(&mut Dice, &Plan, &mut GuardedTables) -> bool;
 const WRONG_TABLES: [(&str, WrongTables); 3] = [
     ("count above the slots", |dice, plan, tables| {
         let disk = dice.below(plan.disks.len());
-        let slots = plan.rack.slots.0;
+        let slots = plan.rack[disk].slots.0;
         let counts = tables.lend().counts;
         counts[disk] = dice.pick(&[slots + 1, slots + 65_536, 1 << 31, u32::MAX]);
         true
@@ -155,12 +173,12 @@ const BITS: [u32; 4] = [1, 1 << 16, 1 << 31, u32::MAX];
 
 /// Writes an entry into the first unused place or the last place of some disk.
 fn mark_unused(dice: &mut Dice, plan: &Plan, tables: &mut GuardedTables, entry: Entry) -> bool {
-    let slots = plan.rack.slots.0 as usize;
     let disk = dice.below(plan.disks.len());
+    let slots = plan.rack[disk].slots.0 as usize;
     let used = plan.disks[disk].len();
     if used < slots {
         let place = dice.pick(&[used, slots - 1]);
-        tables.lend().copies[disk * slots + place] = entry;
+        tables.lend().copies[places(&plan.rack[..disk]) + place] = entry;
     }
     used < slots
 }
@@ -169,7 +187,7 @@ fn mark_unused(dice: &mut Dice, plan: &Plan, tables: &mut GuardedTables, entry: 
 fn compare(case: &Case) -> Written {
     let mut expected = case.space.clone();
     let view = || case.tables.view();
-    let answer = WRITERS[0].1(case.rack, view(), case.left, expected.as_mut());
+    let answer = WRITERS[0].1(&case.rack, view(), case.left, expected.as_mut());
     if answer.number != 0 {
         assert_eq!(expected, case.space);
     }
@@ -177,7 +195,7 @@ fn compare(case: &Case) -> Written {
     assert_eq!(expected.as_ref()[after..], case.space.as_ref()[after..]);
     for (name, writer) in &WRITERS[1..] {
         let mut space = case.space.clone();
-        let written = writer(case.rack, view(), case.left, space.as_mut());
+        let written = writer(&case.rack, view(), case.left, space.as_mut());
         assert_eq!(written, answer, "{name} on {:?}", case.tables);
         assert!(space == expected, "{name} on {:?}", case.tables);
     }
