@@ -2,11 +2,12 @@
 
 use jugfjord::reference::plan::Plan;
 use jugfjord::reference::reader::plan_of;
-use jugfjord::reference::writer::text_of;
+use jugfjord::reference::writer::{first_line, text_of};
 
 use crate::dice::Dice;
 use crate::folder::Folder;
 use crate::plans::good;
+use crate::racks::{equal, mixed};
 
 /// A plan text of five lines.
 const TEXT: &str = "(rack 2 2 5)\n(disk 1 (7 4))\n(disk 2)\n(left (3 9))\n(served 4 9)\n";
@@ -17,9 +18,11 @@ const WRONG_LINE: &str = "no plan text has this line after the lines before it";
 
 /// What `check` says of a plan.
 fn accepted(plan: &Plan) -> String {
-    let (disks, slots, streams) = (plan.rack.disks, plan.rack.slots.0, plan.rack.streams.0);
     let (served, unserved) = (plan.served(), plan.unserved());
-    format!("accepted: rack {disks} {slots} {streams}, served {served}, not served {unserved}\n")
+    let line = first_line(&plan.rack);
+    let rack = line.trim_start_matches('(');
+    let rack = rack.strip_suffix(')').expect("a closing bracket");
+    format!("accepted: {rack}, served {served}, not served {unserved}\n")
 }
 
 #[test]
@@ -32,11 +35,30 @@ fn plans_are_accepted() {
         let ran = folder.run_on(&["check", "-"], text.as_bytes());
         assert_eq!(ran.printed(), said);
     }
-    folder.write("plan.txt", text_of(&Plan::largest()));
-    assert_eq!(
-        folder.run(&["check", "plan.txt"]).printed(),
-        accepted(&Plan::largest())
-    );
+    for plan in [Plan::largest(), Plan::largest_mixed()] {
+        folder.write("plan.txt", text_of(&plan));
+        let ran = folder.run(&["check", "plan.txt"]);
+        assert_eq!(ran.printed(), accepted(&plan));
+    }
+}
+
+#[test]
+fn a_plan_of_unequal_disks_is_accepted_with_each_disk() {
+    let rest = "(disk 1 (7 4))\n(disk 2)\n(left (3 9))\n(served 4 9)\n";
+    let folder = Folder::with("plan.txt", format!("(mixed (4 10) (2 5))\n{rest}"));
+    let said = "accepted: mixed (4 10) (2 5), served 4, not served 9\n";
+    assert_eq!(folder.run(&["check", "plan.txt"]).printed(), said);
+}
+
+#[test]
+fn wrong_lines_of_unequal_disks_are_refused() {
+    let rest = "(disk 1 (7 4))\n(disk 2)\n(left (3 9))\n(served 4 9)\n";
+    for line in ["(mixed (4 10) (4 10))", "(mixed (4 10) (2 6))", "(mixed)"] {
+        let text = format!("{line}\n{rest}");
+        expect_refused(&text, 1, WRONG_LINE, &format!(": '{line}'"));
+    }
+    let text = format!("(mixed (2 5) (4 10))\n{rest}").replace("(7 4)", "(7 4) (8 2)");
+    expect_refused(&text, 2, WRONG_LINE, ": '(disk 1 (7 4) (8 2))'");
 }
 
 /// How much of the text is left, the line that is refused then, and what is said of it.
@@ -161,8 +183,9 @@ fn random_texts_are_judged_as_the_reference_judges_them() {
     let mut dice = Dice::new(10);
     let folder = Folder::new();
     let mut wrong = 0;
-    for _ in 0..300 {
-        let mut text = text_of(&good(&mut dice)).into_bytes();
+    for turn in 0..300 {
+        let racks = [equal, mixed][turn % 2];
+        let mut text = text_of(&good(&mut dice, racks)).into_bytes();
         if dice.one_in(2) {
             let at = dice.below(text.len());
             text[at] = dice.pick(b"0123456789() \nabdefrsv");

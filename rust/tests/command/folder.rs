@@ -8,10 +8,10 @@ use std::process::{Command, ExitStatus, Output, Stdio};
 use std::sync::atomic::{AtomicUsize, Ordering};
 use std::thread;
 
-use jugfjord::rack::{records, Rack, Slots, Streams, MOST_BYTES};
-use jugfjord::reference::{planner, writer};
+use jugfjord::rack::{records, Disk, Rack, Slots, Streams, MOST_BYTES};
+use jugfjord::reference::{mixed_planner, planner, writer};
 use jugfjord::refusal::Refusal;
-use jugfjord::tables::Tables;
+use jugfjord::tables::{OwnTables, Tables};
 
 const JUGFJORD: &str = env!("CARGO_BIN_EXE_jugfjord");
 
@@ -132,17 +132,30 @@ impl Ran {
     }
 }
 
-/// A rack by its three numbers.
+/// A rack of equal disks by its three numbers.
 pub fn rack(disks: u32, slots: u32, streams: u32) -> Rack {
     Rack::new(disks, Slots(slots), Streams(streams))
 }
 
-/// The plan text of a list by the plain planner and writer, or its refusal.
+/// The plan text of a list by the plain planner of three numbers and the plain writer, or its
+/// refusal.
 pub fn reference_text(rack: Rack, list: &[u8]) -> Result<String, Refusal> {
     let mut tables = Tables::for_any_plan();
     let planned = planner::plan(rack, list, tables.lend()).accepted()?;
+    text_of_tables(&rack.entries(), tables, planned.left)
+}
+
+/// The plan text of a list by the plain planner of any disks and the plain writer, or its refusal.
+pub fn mixed_text(rack: &[Disk], list: &[u8]) -> Result<String, Refusal> {
+    let mut tables = Tables::for_any_plan();
+    let planned = mixed_planner::plan(rack, list, tables.lend()).accepted()?;
+    text_of_tables(rack, tables, planned.left)
+}
+
+/// The plan text of these tables with so many left films, or its refusal.
+fn text_of_tables(rack: &[Disk], tables: OwnTables, left: u32) -> Result<String, Refusal> {
     let mut text = vec![0; MOST_BYTES];
-    let written = writer::write(rack, tables.view(), planned.left, &mut text).accepted()?;
+    let written = writer::write(rack, tables.view(), left, &mut text).accepted()?;
     text.truncate(written.length as usize);
     Ok(String::from_utf8(text).expect("plan texts are ASCII"))
 }

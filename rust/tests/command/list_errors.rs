@@ -5,8 +5,9 @@ use std::time::{Duration, Instant};
 use crate::folder::Folder;
 
 /// What may be expected.
-const RACK_FIRST: &str = "'rack DISKS SLOTS STREAMS' before the films";
+const RACK_FIRST: &str = "'rack DISKS SLOTS STREAMS' or 'disk SLOTS STREAMS' before the films";
 const RACK: &str = "'rack DISKS SLOTS STREAMS'";
+const DISK: &str = "'disk SLOTS STREAMS'";
 const FILM: &str = "'FILM DEMAND'";
 const NUMBER: &str = "a whole number";
 const NO_LEADING_ZEROS: &str = "a whole number without leading zeros";
@@ -19,7 +20,7 @@ const ZERO_BYTE: &str = "a zero byte (records are planned by 'jugfjord plan --re
 const CR_ALONE: &str = "a CR alone (save the list with line ends of Unix or Windows)";
 
 /// Files that are no list files: the line, what is expected and what is found.
-const WRONG: [(&[u8], usize, &str, &str); 86] = [
+const WRONG: [(&[u8], usize, &str, &str); 104] = [
     // The rack line.
     (b"", 1, RACK_FIRST, "the end of the file"),
     (b"# x\n\n", 3, RACK_FIRST, "the end of the file"),
@@ -48,6 +49,55 @@ const WRONG: [(&[u8], usize, &str, &str); 86] = [
         3,
         FILM,
         "'rack', a second rack (the first is in line 2)",
+    ),
+    // The lines of disks.
+    (b"disk\n", 1, DISK, "'disk'"),
+    (b"disk 2\n", 1, DISK, "'disk 2'"),
+    (b"disk 2 # 40\n", 1, DISK, "'disk 2'"),
+    (b"disk 2 40\ndisk 2 40 1\n", 2, DISK, "'disk 2 40 1'"),
+    (b"disk,2,,40\n", 1, DISK, "an empty field in 'disk,2,,40'"),
+    (b"disk 2 40\ndisk x 40\n", 2, NUMBER, "'x'"),
+    (b"disk 2 040\n", 1, NO_LEADING_ZEROS, "'040'"),
+    (b"disk 2 4294967296\n", 1, SMALLER, "'4294967296'"),
+    (b"DISK 2 40\n", 1, RACK_FIRST, "'DISK 2 40'"),
+    (b"disks 2 40\n", 1, RACK_FIRST, "'disks 2 40'"),
+    (b"(disk 2 40)\n", 1, RACK_FIRST, "'(disk 2 40)'"),
+    (b"disk 2 40\nDisk 2 40\n", 2, NUMBER, "'Disk'"),
+    (
+        b"rack 2 2 40\ndisk 2 40\n",
+        2,
+        FILM,
+        "'disk 2 40', a disk beside a rack (the rack is in line 1)",
+    ),
+    (
+        b"#\nrack 2 2 40\n1 1\ndisk\n",
+        4,
+        FILM,
+        "'disk', a disk beside a rack (the rack is in line 2)",
+    ),
+    (
+        b"\ndisk 2 40\ndisk 2 40\nrack 2 2 40\n",
+        4,
+        FILM,
+        "'rack 2 2 40', a rack beside disks (the first is in line 2)",
+    ),
+    (
+        b"disk 2 40\n1 1\nrack 2 2 40\n",
+        3,
+        FILM,
+        "'rack 2 2 40', a rack beside disks (the first is in line 1)",
+    ),
+    (
+        b"disk 2 40\n\n1 1\n2 1\ndisk 2 40\n",
+        5,
+        FILM,
+        "'disk 2 40', a disk behind a film (the first film is in line 3)",
+    ),
+    (
+        b"disk 2 40\n#N/A,24\n",
+        2,
+        FILM,
+        "'#N/A', an error of a spreadsheet",
     ),
     // The films' lines.
     (b"rack 2 2 40\n101\n", 2, FILM, "'101'"),

@@ -6,6 +6,7 @@ mod folder;
 mod help;
 mod list_errors;
 mod list_forms;
+mod list_racks;
 mod pages;
 mod random_lists;
 mod refusals;
@@ -13,7 +14,7 @@ mod showing;
 mod streams;
 mod terminal;
 
-/// Random numbers, lists and plans, as the tests of the library have them.
+/// Random numbers, racks, lists and plans, as the tests of the library have them.
 #[path = "../jugfjord/dice.rs"]
 mod dice;
 #[allow(dead_code)]
@@ -25,3 +26,9 @@ mod lists;
 #[allow(dead_code)]
 #[path = "../jugfjord/plans.rs"]
 mod plans;
+#[allow(dead_code)]
+#[path = "../jugfjord/racks.rs"]
+mod racks;
+#[allow(dead_code)]
+#[path = "../jugfjord/tally.rs"]
+mod tally;

@@ -3,6 +3,7 @@
 use std::collections::BTreeMap;
 use std::num::NonZeroU32;
 
+use jugfjord::rack::Disk;
 use jugfjord::reference::plan::{total, Plan};
 
 /// What a plan or a page has of one film.
@@ -87,7 +88,8 @@ pub fn assert_page_is_of(plan: &Plan, page: &str) {
         "{page}"
     );
     let films = films_of(plan);
-    let mut parts = page.split("\n\n").skip(1);
+    let mut parts = page.split("\n\n");
+    assert_eq!(parts.next(), Some(rack_sentence(&plan.rack).as_str()));
     if !films.is_empty() {
         let rows = parts.next().expect("films").lines().skip(1);
         assert_eq!(films_on(rows), films);
@@ -96,14 +98,39 @@ pub fn assert_page_is_of(plan: &Plan, page: &str) {
     assert_shelf(&films, parts.next().expect("sums"));
 }
 
+/// What a page says of a rack, but for the plural of one.
+fn rack_sentence(rack: &[Disk]) -> String {
+    let sum = |number: fn(&Disk) -> u32| rack.iter().map(number).sum::<u32>();
+    let (slots, streams) = (sum(|disk| disk.slots.0), sum(|disk| disk.streams.0));
+    let count = rack.len();
+    let words = if rack.iter().all(|disk| *disk == rack[0]) {
+        let (slots, streams) = (slots / count as u32, streams / count as u32);
+        format!("{count} disks, each with {slots} slots and {streams} streams")
+    } else {
+        format!("{count} unequal disks, in all with {slots} slots and {streams} streams")
+    };
+    ["disk", "slot", "stream"]
+        .iter()
+        .fold(words, |words, thing| {
+            let (many, one) = (format!(" {thing}s"), format!(" {thing}"));
+            let words = words.replace(&format!(" 1{many}"), &format!(" 1{one}"));
+            match words.strip_prefix(&format!("1{many}")) {
+                Some(rest) => format!("1{one}{rest}"),
+                None => words,
+            }
+        })
+}
+
 /// Asserts that these rows have every disk of the plan.
 fn assert_disks(plan: &Plan, disks: Vec<&str>) {
-    let (slots, streams) = (plan.rack.slots.0, plan.rack.streams.0);
     assert_eq!(disks.len(), plan.disks.len());
-    for ((number, copies), row) in (1..).zip(&plan.disks).zip(&disks) {
+    for (at, row) in disks.iter().enumerate() {
+        let (copies, number) = (&plan.disks[at], at + 1);
+        let Disk { slots, streams } = plan.rack[at];
         let words: Vec<&str> = row.split_whitespace().collect();
         let used = total(copies);
-        let expected = format!("{number} {} of {slots} {used} of {streams}", copies.len());
+        let count = copies.len();
+        let expected = format!("{number} {count} of {} {used} of {}", slots.0, streams.0);
         assert_eq!(words[..7].join(" "), expected);
         assert_eq!(row.len(), disks[0].len());
     }

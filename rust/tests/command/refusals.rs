@@ -48,6 +48,66 @@ fn a_refused_list_is_said_in_words_with_its_line() {
     }
 }
 
+/// List files of unequal disks that planning refuses, and what is said of them.
+const REFUSED_DISKS: [(&str, &str); 11] = [
+    ("disk 0 40\n", "1: disk 1: slots 0 is outside 1 to 32 (refused 12)"),
+    ("# x\ndisk 2 40\n\ndisk 33 660\n", "4: disk 2: slots 33 is outside 1 to 32 (refused 12)"),
+    ("disk 2 0\n", "1: disk 1: streams 0 is outside 1 to 65535 (refused 12)"),
+    ("disk 1 4096\ndisk 16 65536\n", "2: disk 2: streams 65536 is outside 1 to 65535 (refused 12)"),
+    (
+        "disk 2 40\ndisk 40 4294967295\n",
+        "2: disk 2: slots 40 is outside 1 to 32, streams 4294967295 is outside 1 to 65535 (refused 12)",
+    ),
+    // A later disk out of range comes before an earlier one of another ratio.
+    ("disk 2 4\ndisk 4 9\ndisk 3 0\n", "3: disk 3: streams 0 is outside 1 to 65535 (refused 12)"),
+    (
+        "disk 2 4\ndisk 4 8\n# x\ndisk 3 7\n",
+        "4: 7 streams to 3 slots is not the ratio of disk 1, 4 to 2 (refused 13, disk 3)",
+    ),
+    (
+        "disk 2 5\ndisk 4 8\ndisk 2 4\n1 1\n",
+        "2: 8 streams to 4 slots is not the ratio of disk 1, 5 to 2 (refused 13, disk 2)",
+    ),
+    // The rack comes before the films.
+    ("disk 2 4\ndisk 4 9\n0 5\n", "2: 9 streams to 4 slots is not the ratio of disk 1, 4 to 2 (refused 13, disk 2)"),
+    ("disk 2 4\ndisk 4 8\n0 5\n", "3: film number 0 is outside 1 to 65535 (refused 4, record 1)"),
+    (
+        "disk 2 4\ndisk 4 8\n7 5\n7 5\n",
+        "4: film 7 is in the list twice (refused 6, record 2), first in line 3",
+    ),
+];
+
+#[test]
+fn a_refused_list_of_disks_is_said_in_words_with_its_line() {
+    for (list, words) in REFUSED_DISKS {
+        let folder = Folder::with("list.txt", list);
+        let ran = folder.run(&["plan", "list.txt"]);
+        ran.failed(1, &format!("list.txt:{words}"));
+    }
+}
+
+#[test]
+fn disk_65_is_named_unless_an_earlier_one_is_out_of_range() {
+    let disks = "disk 2 4\n".repeat(64);
+    let folder = Folder::with("list.txt", &disks);
+    folder.run(&["plan", "list.txt"]).printed();
+    let lists = [
+        (format!("{disks}\ndisk 2 4\n"), 66),
+        (format!("{disks}disk 2 4\ndisk 0 4\n"), 65),
+        (format!("{disks}disk 0 4\n"), 65),
+    ];
+    for (list, line) in lists {
+        folder.write("list.txt", list);
+        let words = "the rack has more than 64 disks (refused 12)";
+        let ran = folder.run(&["plan", "list.txt"]);
+        ran.failed(1, &format!("list.txt:{line}: {words}"));
+    }
+    folder.write("list.txt", format!("disk 2 4\ndisk 0 4\n{disks}"));
+    let words = "disk 2: slots 0 is outside 1 to 32 (refused 12)";
+    let ran = folder.run(&["plan", "list.txt"]);
+    ran.failed(1, &format!("list.txt:2: {words}"));
+}
+
 #[test]
 fn the_list_that_is_too_long_is_named_at_record_1025() {
     let films = |count| {

@@ -5,9 +5,10 @@ use jugfjord::reference::reader::plan_of;
 use jugfjord::reference::writer::text_of;
 
 use crate::dice::Dice;
-use crate::folder::{rack, Folder};
+use crate::folder::Folder;
 use crate::pages::assert_page_is_of;
 use crate::plans::good;
+use crate::racks::{disk, equal, equal_rack as rack, mixed};
 use crate::terminal::printed_on_terminal;
 
 /// The page of a plan.
@@ -322,16 +323,55 @@ fn copies_without_viewers_line_up_with_the_others() {
 }
 
 #[test]
-fn the_largest_plan_is_shown_whole() {
-    let plan = Plan::largest();
-    assert_page_is_of(&plan, &page(&plan));
+fn the_largest_plans_are_shown_whole() {
+    for plan in [Plan::largest(), Plan::largest_mixed()] {
+        assert_page_is_of(&plan, &page(&plan));
+    }
+}
+
+/// A large disk between two small ones, all of them with 10 streams a slot.
+fn unequal_plan() -> Plan {
+    Plan {
+        rack: vec![disk(2, 20), disk(12, 120), disk(2, 20)],
+        disks: vec![
+            vec![(7, 5), (12, 15)],
+            vec![(1_000, 60), (120, 0)],
+            vec![(7, 1)],
+        ],
+        left: vec![(12, 1)],
+    }
+}
+
+const UNEQUAL_PAGE: &str = "\
+3 unequal disks, in all with 16 slots and 160 streams
+
+film  served  left  disk:viewers
+   7       6     0  1:5      3:1
+  12      15     1  1:15
+ 120       0     0  2:shelf
+1000      60     0  2:60
+
+disk  slots used  streams used
+   1      2 of 2      20 of 20  [####################]
+   2     2 of 12     60 of 120  [##########..........]
+   3      1 of 2       1 of 20  [#...................]
+
+served 81 of 82 viewers, 98.78 %; 1 viewer of 1 film is left
+nobody is expected to watch 1 shelf film: 1 stored, 0 without a slot
+";
+
+#[test]
+fn unequal_disks_are_shown_each_with_its_own() {
+    assert_eq!(page(&unequal_plan()), UNEQUAL_PAGE);
 }
 
 #[test]
 fn random_plans_can_be_taken_back_from_their_pages() {
     let mut dice = Dice::new(11);
-    for _ in 0..200 {
-        let plan = good(&mut dice);
-        assert_page_is_of(&plan, &page(&plan));
+    for racks in [equal, mixed] {
+        for _ in 0..200 {
+            let plan = good(&mut dice, racks);
+            assert_page_is_of(&plan, &page(&plan));
+        }
     }
 }

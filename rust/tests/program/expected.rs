@@ -20,10 +20,11 @@ pub fn answer(input: &[u8]) -> Result<Vec<u8>, Refusal> {
     let (head, list) = input.split_at_checked(HEAD).ok_or(Refusal::plain(2))?;
     let number = |at: usize| u32::from_le_bytes(head[at..at + 4].try_into().expect("four bytes"));
     let rack = Rack::new(number(0), Slots(number(4)), Streams(number(8)));
-    let mut tables = OwnTables::for_plan(rack, list.len() / RECORD);
+    let entries = rack.entries();
+    let mut tables = OwnTables::for_plan(&entries, list.len() / RECORD);
     let planned = planner::plan(rack, list, tables.lend()).accepted()?;
     let mut text = vec![0; MOST_BYTES];
-    let written = writer::write(rack, tables.view(), planned.left, &mut text).accepted()?;
+    let written = writer::write(&entries, tables.view(), planned.left, &mut text).accepted()?;
     text.truncate(written.length as usize);
     Ok(text)
 }

@@ -1,13 +1,13 @@
 //! What is planned, written and read.
 
-use jugfjord::rack::{Rack, Slots, Streams, MOST_DISKS};
+use jugfjord::rack::{places, Disk, Rack, Slots, Streams, MOST_DISKS};
 use jugfjord::reference::plan::{Pair, Plan};
 use jugfjord::reference::writer::text_of;
 
 /// A list for planning.
 pub struct Input {
     pub name: &'static str,
-    pub rack: Rack,
+    pub rack: Vec<Disk>,
     pub demands: Vec<Pair>,
     /// Whether no disk may take its window from the front of the list.
     pub slides: bool,
@@ -17,7 +17,7 @@ pub struct Input {
 pub const FIRST_FILM: u32 = 1;
 
 pub fn lists() -> [Input; 4] {
-    let rack = |slots| Rack::new(MOST_DISKS, Slots(slots), Streams(500));
+    let rack = |slots| Rack::new(MOST_DISKS, Slots(slots), Streams(500)).entries();
     [
         Input {
             name: "trial list, 512 films, total 32,000, seed 1",
@@ -44,6 +44,18 @@ pub fn lists() -> [Input; 4] {
             slides: true,
         },
     ]
+}
+
+/// Racks of 64 disks with the same slots and streams in sum: equal disks, and small and large ones
+/// by turns.
+pub fn racks_of_equal_sums() -> [Vec<Disk>; 2] {
+    let disk = |slots, streams| Disk::new(Slots(slots), Streams(streams));
+    let equal = vec![disk(16, 500); MOST_DISKS as usize];
+    let unequal = [disk(24, 750), disk(8, 250)].repeat(MOST_DISKS as usize / 2);
+    let streams = |rack: &[Disk]| rack.iter().map(|disk| disk.streams.0).sum::<u32>();
+    assert_eq!(places(&equal), places(&unequal));
+    assert_eq!(streams(&equal), streams(&unequal));
+    [equal, unequal]
 }
 
 /// Zipf-like demands in order of rank, for films shuffled by a xorshift generator.
@@ -78,10 +90,19 @@ fn sliding_list() -> Vec<Pair> {
         .collect()
 }
 
-/// The text of the largest plan, which document 01's limits let grow to 43,885 bytes.
-pub fn text(plan: &Plan) -> Vec<u8> {
+/// The largest plans of equal and of unequal disks, with the length that their texts have by the
+/// limits of documents 01 and 02.
+pub fn plans() -> [(&'static str, Plan, usize); 2] {
+    [
+        ("equal disks", Plan::largest(), 43_885),
+        ("unequal disks", Plan::largest_mixed(), 44_565),
+    ]
+}
+
+/// The text of a plan, which has this length.
+pub fn text(plan: &Plan, length: usize) -> Vec<u8> {
     let text = text_of(plan).into_bytes();
-    assert_eq!(text.len(), 43_885);
+    assert_eq!(text.len(), length);
     text
 }
 

@@ -1,5 +1,6 @@
-//! Times the library beside plain Rust: same process, same input, alternating rounds.
-//! A ratio is the median over the rounds of library time by Rust time.
+//! Times the library beside plain Rust, and planning on unequal disks beside planning on equal
+//! ones: same process, same input, alternating rounds. A ratio is the median over the rounds of
+//! the first time by the second.
 
 mod inputs;
 mod timing;
@@ -8,14 +9,14 @@ use std::hint::black_box;
 
 use inputs::Input;
 use jugfjord::ffi::Planned;
-use jugfjord::rack::Rack;
+use jugfjord::rack::{records, Disk};
 use jugfjord::reference::plan::Plan;
 use jugfjord::reference::{fast_reader, fast_writer, rolling};
 use jugfjord::tables::{Entry, LentTables, OwnTables};
 use jugfjord::wrap;
 use timing::{compare, Comparison};
 
-type Planner = fn(Rack, &[u8], LentTables) -> Planned;
+type Planner = fn(&[Disk], &[u8], LentTables) -> Planned;
 
 fn main() {
     println!("planning: library, Rust, ratio");
@@ -25,45 +26,63 @@ fn main() {
         let inserting = plan_both(&input, rolling::plan_by_insertion);
         show_time("  Rust builds its list by insertion", &inserting);
     }
-    let plan = Plan::largest();
-    let text = inputs::text(&plan);
-    println!(
-        "the largest plan, {} bytes: library, Rust, ratio",
-        text.len()
-    );
-    let mut tables = OwnTables::for_plan(plan.rack, plan.left.len());
-    plan.store(&mut tables.lend());
-    let left = plan.left.len() as u32;
-    show_speed(
-        "write",
-        text.len(),
-        &write_both(plan.rack, &tables, left, &text),
-    );
-    show_speed("read", text.len(), &read_both(&tables, &text));
+    println!("planning by the library: 64 unequal disks, 64 equal ones with the same sums, ratio");
+    for input in inputs::lists() {
+        show_time(input.name, &plan_unequal(&input));
+    }
+    for (disks, plan, length) in inputs::plans() {
+        let text = inputs::text(&plan, length);
+        println!("the largest plan of {disks}, {length} bytes: library, Rust, ratio");
+        let mut tables = OwnTables::for_plan(&plan.rack, plan.left.len());
+        plan.store(&mut tables.lend());
+        show_speed("write", length, &write_both(&plan, &tables, &text));
+        show_speed("read", length, &read_both(&plan, &tables, &text));
+    }
 }
 
 /// Checks that both planners make the same plan of the input, then times them.
 fn plan_both(input: &Input, rival: Planner) -> Comparison {
-    let count = input.demands.len();
-    let list = jugfjord::rack::records(&input.demands);
-    let fresh = || OwnTables::for_plan(input.rack, count);
-    let (mut ours, mut theirs) = (fresh(), fresh());
-    let planned = wrap::plan(input.rack, &list, ours.lend());
-    assert_eq!(planned, rival(input.rack, &list, theirs.lend()));
-    assert_eq!(planned.number, 0);
-    assert!(ours == theirs, "the tables differ");
+    let rack = &input.rack;
+    let list = records(&input.demands);
+    let (mut ours, mut theirs) = (checked(rack, input, rival), checked(rack, input, rival));
     if input.slides {
         let first = |copy: &Entry| copy.film() == inputs::FIRST_FILM;
         assert!(!ours.copies.iter().any(first), "a disk did not slide");
     }
     compare(
-        || wrap::plan(black_box(input.rack), black_box(&list), ours.lend()),
-        || rival(black_box(input.rack), black_box(&list), theirs.lend()),
+        || wrap::plan(black_box(rack), black_box(&list), ours.lend()),
+        || rival(black_box(rack), black_box(&list), theirs.lend()),
     )
 }
 
+/// Checks the library's plans of the input's list on unequal disks and on equal ones with the same
+/// sums, then times them.
+fn plan_unequal(input: &Input) -> Comparison {
+    let list = records(&input.demands);
+    let [equal, unequal] = inputs::racks_of_equal_sums();
+    let mut on_unequal = checked(&unequal, input, rolling::plan);
+    let mut on_equal = checked(&equal, input, rolling::plan);
+    compare(
+        || wrap::plan(black_box(&unequal), black_box(&list), on_unequal.lend()),
+        || wrap::plan(black_box(&equal), black_box(&list), on_equal.lend()),
+    )
+}
+
+/// Tables with the library's plan of the input's list on this rack, which is also the rival's.
+fn checked(rack: &[Disk], input: &Input, rival: Planner) -> OwnTables {
+    let list = records(&input.demands);
+    let fresh = || OwnTables::for_plan(rack, input.demands.len());
+    let (mut ours, mut theirs) = (fresh(), fresh());
+    let planned = wrap::plan(rack, &list, ours.lend());
+    assert_eq!(planned, rival(rack, &list, theirs.lend()));
+    assert_eq!(planned.number, 0);
+    assert!(ours == theirs, "the tables differ");
+    ours
+}
+
 /// Checks that both writers make this text, then times them.
-fn write_both(rack: Rack, tables: &OwnTables, left: u32, text: &[u8]) -> Comparison {
+fn write_both(plan: &Plan, tables: &OwnTables, text: &[u8]) -> Comparison {
+    let (rack, left) = (plan.rack.as_slice(), plan.left.len() as u32);
     let (mut ours, mut theirs) = (vec![0; text.len()], vec![0; text.len()]);
     let written = wrap::write(rack, tables.view(), left, &mut ours);
     let rivals = fast_writer::write(rack, tables.view(), left, &mut theirs);
@@ -75,19 +94,22 @@ fn write_both(rack: Rack, tables: &OwnTables, left: u32, text: &[u8]) -> Compari
     )
 }
 
-/// Checks that both readers fill these tables, then times them.
-fn read_both(tables: &OwnTables, text: &[u8]) -> Comparison {
+/// Checks that both readers fill this rack and these tables, then times them.
+fn read_both(plan: &Plan, tables: &OwnTables, text: &[u8]) -> Comparison {
     let (mut ours, mut theirs) = (tables.clone(), tables.clone());
     for each in [&mut ours, &mut theirs] {
         each.copies.fill(Entry::new(7, 7));
         each.left.fill(Entry::new(7, 7));
     }
-    let read = wrap::read(text, ours.lend());
-    assert_eq!(read, fast_reader::read(text, theirs.lend()));
+    let mut racks = [(); 2].map(|()| vec![Disk::default(); plan.rack.len()]);
+    let [our_rack, their_rack] = &mut racks;
+    let read = wrap::read(text, our_rack, ours.lend());
+    assert_eq!(read, fast_reader::read(text, their_rack, theirs.lend()));
     assert!(&ours == tables && &theirs == tables, "the tables differ");
+    assert!(our_rack == &plan.rack && their_rack == &plan.rack);
     compare(
-        || wrap::read(black_box(text), ours.lend()),
-        || fast_reader::read(black_box(text), theirs.lend()),
+        || wrap::read(black_box(text), our_rack, ours.lend()),
+        || fast_reader::read(black_box(text), their_rack, theirs.lend()),
     )
 }
 

@@ -8,30 +8,30 @@ const ROUNDS: usize = 501;
 /// the machine breaks into few rounds, and those do not reach the median.
 const ROUND: f64 = 0.001;
 
-/// The median seconds of one call, library first, and the median of the rounds' ratios.
+/// The median seconds of one call of each, and the median of the rounds' ratios.
 pub struct Comparison {
     pub seconds: [f64; 2],
     pub ratio: f64,
 }
 
 /// Times both, by turns. The one that goes first changes from round to round.
-pub fn compare<T, U>(mut library: impl FnMut() -> T, mut rust: impl FnMut() -> U) -> Comparison {
-    let single = seconds(&mut library, 20).max(seconds(&mut rust, 20));
+pub fn compare<T, U>(mut one: impl FnMut() -> T, mut other: impl FnMut() -> U) -> Comparison {
+    let single = seconds(&mut one, 20).max(seconds(&mut other, 20));
     let calls = (ROUND / single).ceil() as u32;
     let mut times = [Vec::new(), Vec::new()];
     for round in 0..ROUNDS {
         if round % 2 == 0 {
-            times[0].push(seconds(&mut library, calls));
-            times[1].push(seconds(&mut rust, calls));
+            times[0].push(seconds(&mut one, calls));
+            times[1].push(seconds(&mut other, calls));
         } else {
-            times[1].push(seconds(&mut rust, calls));
-            times[0].push(seconds(&mut library, calls));
+            times[1].push(seconds(&mut other, calls));
+            times[0].push(seconds(&mut one, calls));
         }
     }
     let ratios = times[0]
         .iter()
         .zip(&times[1])
-        .map(|(ours, theirs)| ours / theirs);
+        .map(|(one, other)| one / other);
     Comparison {
         ratio: median(ratios.collect()),
         seconds: times.map(median),

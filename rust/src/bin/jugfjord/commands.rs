@@ -80,9 +80,12 @@ A list file:
   rack 4 6 40
   101 31
   102,24
+Instead of the rack line, a line 'disk SLOTS STREAMS' for each disk, by number,
+makes a rack of large and small disks with one ratio of streams to slots.
 Spaces, tabs, a comma or a semicolon stand between numbers. # begins a comment
 at the beginning of a line or behind one of these.
-A list in records is what `jugfjord records` prints and plan(1) reads.
+A list in records is what `jugfjord records` prints and plan(1) reads. It has
+equal disks alone.
 ";
 
 const STATUSES: &str = "\

@@ -1,6 +1,6 @@
 //! A demand list with its rack, from a list file or from the bytes that `plan` reads.
 
-use jugfjord::rack::{Rack, Slots, Streams, RECORD};
+use jugfjord::rack::{Disk, Rack, Slots, Streams, RECORD};
 use jugfjord::refusal::Refusal;
 
 use crate::arguments::Arguments;
@@ -15,16 +15,46 @@ const RACK_BYTES: usize = 12;
 
 /// A list as planning takes it, and the lines where it stands.
 pub struct List {
-    pub rack: Rack,
+    pub rack: ListRack,
     pub records: Vec<u8>,
     /// None where the list comes from bytes.
     pub lines: Option<Lines>,
 }
 
-/// The lines of a list file, from 1: that of the rack and that of each record.
+/// A rack as a list has it: equal disks by three numbers, or disk by disk.
+pub enum ListRack {
+    Equal(Rack),
+    Disks(Vec<Disk>),
+}
+
+/// The lines of a list file, from 1: that of the rack, or that of each disk, and that of each
+/// record.
 pub struct Lines {
-    pub rack: usize,
+    pub rack: Vec<usize>,
     pub records: Vec<usize>,
+}
+
+impl ListRack {
+    /// The rack as planning takes it.
+    pub fn entries(&self) -> Vec<Disk> {
+        match self {
+            ListRack::Equal(rack) => rack.entries(),
+            ListRack::Disks(disks) => disks.clone(),
+        }
+    }
+
+    /// The three numbers of equal disks, or the first disk, from 0, that is not as the first one.
+    fn three_numbers(&self) -> Result<Rack, usize> {
+        let disks = match self {
+            ListRack::Equal(rack) => return Ok(*rack),
+            ListRack::Disks(disks) => disks,
+        };
+        let Disk { slots, streams } = disks[0];
+        match disks.iter().position(|&disk| disk != disks[0]) {
+            None => Ok(Rack::new(disks.len() as u32, slots, streams)),
+            Some(other) => Err(other),
+        }
+    }
 }
 
 impl List {
@@ -59,21 +89,22 @@ impl List {
         };
         let [disks, slots, streams] = [0, 4, 8].map(|at| number(&rack[at..]));
         Ok(List {
-            rack: Rack::new(disks, Slots(slots), Streams(streams)),
+            rack: ListRack::Equal(Rack::new(disks, Slots(slots), Streams(streams))),
             records: records.to_vec(),
             lines: None,
         })
     }
 
-    /// The bytes that `plan` reads.
-    pub fn to_records(&self) -> Vec<u8> {
+    /// The bytes that `plan` reads. They have equal disks alone: else the first disk, from 0, that
+    /// is not as the first one.
+    pub fn to_records(&self) -> Result<Vec<u8>, usize> {
         let Rack {
             disks,
             slots,
             streams,
-        } = self.rack;
+        } = self.rack.three_numbers()?;
         let rack = [disks, slots.0, streams.0].map(u32::to_le_bytes);
-        [rack.as_flattened(), &self.records].concat()
+        Ok([rack.as_flattened(), &self.records].concat())
     }
 
     /// The film numbers of all records.

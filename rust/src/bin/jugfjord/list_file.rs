@@ -1,8 +1,9 @@
-//! List files: a rack line, then a line for each film. docs/FORMAT.md has their rules.
+//! List files: a line for the rack or for each disk, then one for each film. docs/FORMAT.md has
+//! their rules.
 
-use jugfjord::rack::{records, Rack, Slots, Streams};
+use jugfjord::rack::{records, Disk, Rack, Slots, Streams};
 
-use crate::list::{Lines, List};
+use crate::list::{Lines, List, ListRack};
 use crate::list_line::{error_value, fields_of, numbers, parts_of};
 use crate::words::quoted;
 
@@ -13,9 +14,11 @@ const ZERO_BYTE: &str = "expected text, found a zero byte \
     (records are planned by 'jugfjord plan --records')";
 const CR_ALONE: &str = "expected LF or CRLF at the end of each line, found a CR alone \
     (save the list with line ends of Unix or Windows)";
-/// The word that a rack line begins with.
+/// The words that a rack line and the line of a disk begin with.
 const RACK_WORD: &[u8] = b"rack";
+const DISK_WORD: &[u8] = b"disk";
 const RACK_LINE: &str = "rack DISKS SLOTS STREAMS";
+const DISK_LINE: &str = "disk SLOTS STREAMS";
 const FILM_LINE: &str = "FILM DEMAND";
 
 /// Why a file is no list file: the line, what was expected and what was found.
@@ -27,8 +30,10 @@ pub struct Wrong {
 /// What the lines so far hold.
 #[derive(Default)]
 struct Gathered {
-    /// The rack and its line, once it was met.
-    rack: Option<(Rack, usize)>,
+    /// The rack or its disks so far, once one was met.
+    rack: Option<ListRack>,
+    /// The line of the rack, or of each disk.
+    rack_lines: Vec<usize>,
     records: Vec<u8>,
     record_lines: Vec<usize>,
 }
@@ -84,18 +89,60 @@ impl Gathered {
             return Err(self.spreadsheet_error(value));
         }
         let fields = fields_of(content);
-        match (self.rack, fields.as_slice()) {
-            (_, []) => {}
-            (None, [RACK_WORD, ..]) => self.rack = Some((rack(content, &fields[1..])?, number)),
-            (None, _) => return Err(no_rack(&quoted(content))),
-            (Some((_, first)), [RACK_WORD, ..]) => return Err(second_rack(content, first)),
-            (Some(_), _) => {
-                let [film, demand] = numbers(FILM_LINE, content, &fields)?;
+        match fields.as_slice() {
+            [] => {}
+            [RACK_WORD, rest @ ..] => self.take_rack(number, content, rest)?,
+            [DISK_WORD, rest @ ..] => self.take_disk(number, content, rest)?,
+            _ if self.rack.is_none() => return Err(no_rack(&quoted(content))),
+            fields => {
+                let [film, demand] = numbers(FILM_LINE, content, fields)?;
                 self.records.extend(records(&[(film, demand)]));
                 self.record_lines.push(number);
             }
         }
         Ok(())
+    }
+
+    /// Takes a rack line with these fields after its word. It stands once, and beside no disk.
+    fn take_rack(&mut self, number: usize, content: &[u8], fields: &[&[u8]]) -> Result<(), String> {
+        match self.rack {
+            None => {
+                let [disks, slots, streams] = numbers(RACK_LINE, content, fields)?;
+                let rack = Rack::new(disks, Slots(slots), Streams(streams));
+                self.rack = Some(ListRack::Equal(rack));
+                self.rack_lines.push(number);
+                Ok(())
+            }
+            Some(ListRack::Equal(_)) => Err(self.too_late(content, "a second rack", "first")),
+            Some(ListRack::Disks(_)) => Err(self.too_late(content, "a rack beside disks", "first")),
+        }
+    }
+
+    /// Takes the line of a disk with these fields after its word. It stands beside no rack line, and
+    /// before the films.
+    fn take_disk(&mut self, number: usize, content: &[u8], fields: &[&[u8]]) -> Result<(), String> {
+        if let Some(ListRack::Equal(_)) = self.rack {
+            return Err(self.too_late(content, "a disk beside a rack", "rack"));
+        }
+        if let Some(film) = self.record_lines.first() {
+            let found = quoted(content);
+            let why = format!("a disk behind a film (the first film is in line {film})");
+            return Err(no_film(&format!("{found}, {why}")));
+        }
+        let [slots, streams] = numbers(DISK_LINE, content, fields)?;
+        let disk = Disk::new(Slots(slots), Streams(streams));
+        match &mut self.rack {
+            Some(ListRack::Disks(disks)) => disks.push(disk),
+            _ => self.rack = Some(ListRack::Disks(vec![disk])),
+        }
+        self.rack_lines.push(number);
+        Ok(())
+    }
+
+    /// What is said of a line that may not stand after the rack's first line.
+    fn too_late(&self, content: &[u8], what: &str, before: &str) -> String {
+        let (found, line) = (quoted(content), self.rack_lines[0]);
+        no_film(&format!("{found}, {what} (the {before} is in line {line})"))
     }
 
     /// What is said of a spreadsheet's error value in the place of the line that is due.
@@ -107,11 +154,11 @@ impl Gathered {
         }
     }
 
-    /// The list, if its rack line was met.
+    /// The list, if its rack was met.
     fn list(self) -> Result<List, String> {
-        let (rack, rack_line) = self.rack.ok_or_else(|| no_rack("the end of the file"))?;
+        let rack = self.rack.ok_or_else(|| no_rack("the end of the file"))?;
         let lines = Lines {
-            rack: rack_line,
+            rack: self.rack_lines,
             records: self.record_lines,
         };
         Ok(List {
@@ -122,23 +169,10 @@ impl Gathered {
     }
 }
 
-/// The rack in the fields after its word.
-fn rack(content: &[u8], fields: &[&[u8]]) -> Result<Rack, String> {
-    let [disks, slots, streams] = numbers(RACK_LINE, content, fields)?;
-    Ok(Rack::new(disks, Slots(slots), Streams(streams)))
-}
-
 fn no_rack(found: &str) -> String {
-    format!("expected '{RACK_LINE}' before the films, found {found}")
+    format!("expected '{RACK_LINE}' or '{DISK_LINE}' before the films, found {found}")
 }
 
 fn no_film(found: &str) -> String {
     format!("expected '{FILM_LINE}', found {found}")
-}
-
-fn second_rack(content: &[u8], first: usize) -> String {
-    let found = quoted(content);
-    no_film(&format!(
-        "{found}, a second rack (the first is in line {first})"
-    ))
 }

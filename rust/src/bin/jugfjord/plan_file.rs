@@ -7,7 +7,7 @@ use jugfjord::wrap;
 use crate::arguments::Arguments;
 use crate::failure::Failure;
 use crate::standard::Source;
-use crate::words::quoted;
+use crate::words::{quoted, shown};
 
 /// One line about the plan of an accepted text.
 pub fn check(arguments: &Arguments) -> Result<Vec<u8>, Failure> {
@@ -16,9 +16,17 @@ pub fn check(arguments: &Arguments) -> Result<Vec<u8>, Failure> {
     let plan = wrap::judge(&text)
         .accepted()
         .map_err(|refusal| refused(source, &text, refusal))?;
-    let rack = format!("{} {} {}", plan.disks, plan.slots, plan.streams);
     let sums = format!("served {}, not served {}", plan.served, plan.unserved);
-    Ok(format!("accepted: rack {rack}, {sums}\n").into_bytes())
+    Ok(format!("accepted: {}, {sums}\n", first_form(&text)).into_bytes())
+}
+
+/// What the first line of an accepted text has in its brackets: the rack.
+fn first_form(text: &[u8]) -> String {
+    let line = text.split(|&byte| byte == b'\n').next().unwrap_or(text);
+    let inner = line
+        .strip_prefix(b"(")
+        .and_then(|line| line.strip_suffix(b")"));
+    shown(inner.unwrap_or(line))
 }
 
 /// The file's bytes, or one more than the longest text that is looked at.

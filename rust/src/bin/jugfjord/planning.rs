@@ -1,13 +1,13 @@
 //! `jugfjord plan` and `jugfjord records`: the plan text of a list, and a list as records.
 
-use jugfjord::rack::{Rack, MOST_BYTES, MOST_DISKS, MOST_RECORDS, MOST_SLOTS, MOST_STREAMS};
+use jugfjord::rack::{Disk, Rack, MOST_BYTES, MOST_DISKS, MOST_RECORDS, MOST_SLOTS, MOST_STREAMS};
 use jugfjord::refusal::Refusal;
 use jugfjord::tables::OwnTables;
 use jugfjord::wrap;
 
 use crate::arguments::Arguments;
 use crate::failure::Failure;
-use crate::list::List;
+use crate::list::{List, ListRack};
 use crate::standard::Source;
 
 /// The plan text of the list.
@@ -21,43 +21,85 @@ pub fn plan(arguments: &Arguments) -> Result<Vec<u8>, Failure> {
 
 /// The list as the bytes that `plan` reads.
 pub fn records(arguments: &Arguments) -> Result<Vec<u8>, Failure> {
-    List::from_file(arguments.file(0)).map(|list| list.to_records())
+    let source = arguments.file(0);
+    let list = List::from_file(source)?;
+    list.to_records().map_err(|other| {
+        let at = at_line(source, disk_line(&list, other));
+        let disk = other + 1;
+        let words = format!("records have equal disks alone, and disk {disk} is not as disk 1");
+        Failure::not_done(format!("{at}: {words}"))
+    })
 }
 
 /// The text that the library writes of the plan that it makes.
 fn plan_text(list: &List) -> Result<Vec<u8>, Refusal> {
+    let rack = list.rack.entries();
+    let numbered = |refusal| numbered(list, refusal);
     let mut tables = OwnTables::for_any_plan();
-    let planned = wrap::plan(list.rack, &list.records, tables.lend()).accepted()?;
+    let planned = wrap::plan(&rack, &list.records, tables.lend()).accepted();
+    let left = planned.map_err(numbered)?.left;
     let mut text = vec![0; MOST_BYTES];
-    let written = wrap::write(list.rack, tables.view(), planned.left, &mut text).accepted()?;
-    text.truncate(written.length as usize);
+    let written = wrap::write(&rack, tables.view(), left, &mut text).accepted();
+    text.truncate(written.map_err(numbered)?.length as usize);
     Ok(text)
+}
+
+/// The refusal by its number for this list: 12 is 1 for a rack by three numbers, as in `plan`.
+fn numbered(list: &List, refusal: Refusal) -> Refusal {
+    match (&list.rack, refusal.number) {
+        (ListRack::Equal(_), 12) => Refusal::plain(1),
+        _ => refusal,
+    }
 }
 
 /// The file with the line that a refusal is about, if there is one.
 fn place(source: &Source, list: &List, refusal: Refusal) -> String {
-    let line = list.lines.as_ref().and_then(|lines| match refusal.number {
-        1 => Some(lines.rack),
-        3 => lines.records.get(MOST_RECORDS).copied(),
-        4..=6 => lines.records.get(record_of(refusal)).copied(),
+    let record_line = |record: usize| {
+        let lines = list.lines.as_ref()?;
+        lines.records.get(record).copied()
+    };
+    let line = match refusal.number {
+        1 => disk_line(list, 0),
+        3 => record_line(MOST_RECORDS),
+        4..=6 => record_line(second_of(refusal)),
+        12 => disk_line(list, out_of_range_disk(&list.rack.entries())),
+        13 => disk_line(list, second_of(refusal)),
         _ => None,
-    });
+    };
+    at_line(source, line)
+}
+
+/// The line of a disk, from 0, or the line of the rack.
+fn disk_line(list: &List, disk: usize) -> Option<usize> {
+    let lines = list.lines.as_ref()?;
+    lines.rack.get(disk).copied()
+}
+
+/// The file with a line, if there is one.
+fn at_line(source: &Source, line: Option<usize>) -> String {
     match line {
         Some(line) => source.line(line),
         None => source.name(),
     }
 }
 
-/// The record of a refusal, from 0.
-fn record_of(refusal: Refusal) -> usize {
+/// The record or the disk of a refusal, from 0.
+fn second_of(refusal: Refusal) -> usize {
     (refusal.second as usize).saturating_sub(1)
+}
+
+/// The first disk, from 0, that is out of range or one too many.
+fn out_of_range_disk(rack: &[Disk]) -> usize {
+    let most = MOST_DISKS as usize;
+    let first = rack.iter().position(|disk| !disk.in_range());
+    first.map_or(most, |first| first.min(most))
 }
 
 /// The refusal in words, with the value in the list that it is about.
 fn explained(list: &List, refusal: Refusal) -> String {
-    let record = record_of(refusal);
+    let record = second_of(refusal);
     let value = match refusal.number {
-        1 => return format!("{} {}", out_of_range(list.rack), refusal.numbers()),
+        1 | 12 | 13 => return format!("{} {}", wrong_rack(list, refusal), refusal.numbers()),
         2 => Some(list.records.len() as u64),
         4 | 6 => list.films().nth(record).map(u64::from),
         5 => list.demands().nth(record).map(u64::from),
@@ -73,13 +115,50 @@ fn explained(list: &List, refusal: Refusal) -> String {
     }
 }
 
+/// What is wrong with the rack.
+fn wrong_rack(list: &List, refusal: Refusal) -> String {
+    match &list.rack {
+        ListRack::Equal(rack) => rack_out_of_range(*rack),
+        ListRack::Disks(disks) if refusal.number == 13 => {
+            other_ratio(disks[second_of(refusal)], disks[0])
+        }
+        ListRack::Disks(disks) => disk_out_of_range(disks),
+    }
+}
+
 /// Which numbers of the rack are out of which range.
-fn out_of_range(rack: Rack) -> String {
-    let numbers = [
+fn rack_out_of_range(rack: Rack) -> String {
+    out_of_range(&[
         ("disks", rack.disks, MOST_DISKS),
         ("slots", rack.slots.0, MOST_SLOTS),
         ("streams", rack.streams.0, MOST_STREAMS),
-    ];
+    ])
+}
+
+/// Which numbers of the first such disk are out of which range, or that there are too many disks.
+fn disk_out_of_range(disks: &[Disk]) -> String {
+    let at = out_of_range_disk(disks);
+    match disks.get(at) {
+        Some(disk) if at < MOST_DISKS as usize => {
+            let words = out_of_range(&[
+                ("slots", disk.slots.0, MOST_SLOTS),
+                ("streams", disk.streams.0, MOST_STREAMS),
+            ]);
+            format!("disk {}: {words}", at + 1)
+        }
+        _ => format!("the rack has more than {MOST_DISKS} disks"),
+    }
+}
+
+/// That a disk has another ratio than the first one.
+fn other_ratio(disk: Disk, first: Disk) -> String {
+    let (slots, streams) = (disk.slots.0, disk.streams.0);
+    let (one, other) = (first.streams.0, first.slots.0);
+    format!("{streams} streams to {slots} slots is not the ratio of disk 1, {one} to {other}")
+}
+
+/// Which numbers are out of which range: each with its name and the most that it may be.
+fn out_of_range(numbers: &[(&str, u32, u32)]) -> String {
     let outside = numbers
         .iter()
         .filter(|(_, value, most)| !(1..=*most).contains(value));

@@ -1,6 +1,6 @@
 //! A plan by disk: the slots and the streams in use.
 
-use jugfjord::ffi::ReadPlan;
+use jugfjord::rack::Disk;
 use jugfjord::tables::{Entry, TablesView};
 
 use super::page::Row;
@@ -11,28 +11,32 @@ pub const TITLES: [&str; 4] = ["disk", "slots used", "streams used", ""];
 const BAR: usize = 20;
 
 /// The rows of all disks.
-pub fn rows(plan: &ReadPlan, tables: &TablesView) -> Vec<Row> {
-    let row = |(disk, copies): (u32, &[Entry])| {
+pub fn rows(rack: &[Disk], tables: &TablesView) -> Vec<Row> {
+    let row = |((number, copies), disk): ((u32, &[Entry]), &Disk)| {
         let used: u32 = copies.iter().map(|copy| copy.amount()).sum();
-        let slots = format!("{} of {}", copies.len(), plan.slots);
-        let streams = format!("{used} of {}", plan.streams);
+        let slots = format!("{} of {}", copies.len(), disk.slots.0);
+        let streams = format!("{used} of {}", disk.streams.0);
         Row {
-            columns: [disk.to_string(), slots, streams],
-            detail: bar(used as usize, plan.streams as usize),
+            columns: [number.to_string(), slots, streams],
+            detail: bar(used as usize, disk.streams.0 as usize),
             in_colour: false,
         }
     };
-    copies(plan, tables).map(row).collect()
+    copies(rack, tables).zip(rack).map(row).collect()
 }
 
 /// The copies of each disk, by its number.
 pub fn copies<'a>(
-    plan: &ReadPlan,
+    rack: &'a [Disk],
     tables: &TablesView<'a>,
 ) -> impl Iterator<Item = (u32, &'a [Entry])> {
-    let places = tables.copies.chunks(plan.slots as usize);
-    let disks = places.zip(tables.counts);
-    (1..=plan.disks).zip(disks.map(|(places, &count)| &places[..count as usize]))
+    let mut rest = tables.copies;
+    let copies = rack.iter().zip(tables.counts).map(move |(disk, &count)| {
+        let (places, behind) = rest.split_at(disk.slots.0 as usize);
+        rest = behind;
+        &places[..count as usize]
+    });
+    (1..).zip(copies)
 }
 
 /// A bar for a part of a whole: full for the whole alone, empty for nothing alone.

@@ -3,7 +3,7 @@
 use std::collections::BTreeMap;
 use std::iter;
 
-use jugfjord::ffi::ReadPlan;
+use jugfjord::rack::Disk;
 use jugfjord::tables::TablesView;
 
 use super::disks;
@@ -74,12 +74,12 @@ pub fn rows(films: &Films) -> Vec<Row> {
     films.iter().flat_map(rows).collect()
 }
 
-/// What the plan has of each film.
-pub fn gather(plan: &ReadPlan, tables: &TablesView) -> Films {
+/// What the plan has of each film, with so many left films.
+pub fn gather(rack: &[Disk], tables: &TablesView, left: u32) -> Films {
     let mut films = Films::new();
-    let left = tables.left[..plan.left as usize].iter();
+    let left = tables.left[..left as usize].iter();
     left.for_each(|entry| films.entry(entry.film()).or_default().left = entry.amount());
-    let disks = disks::copies(plan, tables);
+    let disks = disks::copies(rack, tables);
     let copies = disks.flat_map(|(disk, copies)| copies.iter().map(move |copy| (disk, copy)));
     for (disk, copy) in copies {
         let film = films.entry(copy.film()).or_default();

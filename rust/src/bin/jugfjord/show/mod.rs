@@ -5,6 +5,7 @@ mod films;
 mod page;
 
 use jugfjord::ffi::ReadPlan;
+use jugfjord::rack::{places, Disk, MOST_DISKS};
 use jugfjord::tables::OwnTables;
 use jugfjord::wrap;
 
@@ -21,25 +22,39 @@ const WIDTH: usize = 79;
 pub fn show(arguments: &Arguments) -> Result<Vec<u8>, Failure> {
     let source = arguments.file(0);
     let text = plan_file::read(source)?;
+    let mut rack = [Disk::default(); MOST_DISKS as usize];
     let mut tables = OwnTables::for_any_plan();
-    let plan = wrap::read(&text, tables.lend())
+    let plan = wrap::read(&text, &mut rack, tables.lend())
         .accepted()
         .map_err(|refusal| plan_file::refused(source, &text, refusal))?;
-    let films = films::gather(&plan, &tables.view());
+    let rack = &rack[..plan.disks as usize];
+    let films = films::gather(rack, &tables.view(), plan.left);
     let mut page = Page::new(standard::may_be_coloured());
-    page.sentence(&rack(&plan));
+    page.sentence(&rack_words(rack));
     page.table(films::TITLES, films::rows(&films));
-    page.table(disks::TITLES, disks::rows(&plan, &tables.view()));
+    page.table(disks::TITLES, disks::rows(rack, &tables.view()));
     page.sentence(&(sums(&plan, &films) + &shelf(&films)));
     Ok(page.into_bytes())
 }
 
-/// The rack in words.
-fn rack(plan: &ReadPlan) -> String {
-    let disks = counted(plan.disks, "disk");
-    let slots = counted(plan.slots, "slot");
-    let streams = counted(plan.streams, "stream");
-    format!("{disks}, each with {slots} and {streams}")
+/// The rack in words: what each disk has, or what unequal disks have in all.
+fn rack_words(rack: &[Disk]) -> String {
+    let Disk { slots, streams } = rack[0];
+    let count = rack.len() as u64;
+    if rack.iter().all(|&disk| disk == rack[0]) {
+        let disks = counted(count, "disk");
+        let slots = counted(slots.0, "slot");
+        let streams = counted(streams.0, "stream");
+        format!("{disks}, each with {slots} and {streams}")
+    } else {
+        let slots = counted(places(rack) as u64, "slot");
+        let streams = rack
+            .iter()
+            .map(|disk| u64::from(disk.streams.0))
+            .sum::<u64>();
+        let streams = counted(streams, "stream");
+        format!("{count} unequal disks, in all with {slots} and {streams}")
+    }
 }
 
 /// S and U in words, with the share served in per cent, rounded down.
