@@ -1,4 +1,4 @@
-/* Plans a rack of 3 disks and 12 films, prints the text, judges it and reads it back. A program to copy, in C99 or C++:
+/* Plans a rack of 3 equal disks and 12 films, prints the text, judges it and reads it back. A program to copy, in C99 or C++:
  *   cc first_plan.c $(pkg-config --cflags --libs jugfjord) && ./a.out */
 #include <inttypes.h>
 #include <jugfjord.h>
@@ -7,7 +7,8 @@
 
 enum { DISKS = 3, SLOTS = 4, STREAMS = 6, FILMS = 12 };
 
-static struct tables {
+static struct plan {
+    struct jugfjord_disk rack[DISKS]; /* for disks that differ, set each entry's slots and streams */
     uint64_t copies[JUGFJORD_MOST_COPIES], left[JUGFJORD_MOST_LEFT];
     uint32_t counts[JUGFJORD_MOST_DISKS];
 } made, found; /* the plan that was made, and the one that its text has */
@@ -17,22 +18,23 @@ static uint8_t list[8 * FILMS], text[JUGFJORD_MOST_TEXT];
 static const char *words(uint32_t number)
 {
     switch (number) {
-    case JUGFJORD_REFUSED_RACK_OUT_OF_RANGE: return "disks, slots or streams are out of range";
     case JUGFJORD_REFUSED_LIST_LENGTH: return "the list's length is no multiple of 8";
     case JUGFJORD_REFUSED_TOO_MANY_RECORDS: return "the list has more than 1,024 records";
     case JUGFJORD_REFUSED_FILM_OUT_OF_RANGE: return "this record's film number is out of range";
     case JUGFJORD_REFUSED_DEMAND_OUT_OF_RANGE: return "this record's demand is out of range";
     case JUGFJORD_REFUSED_FILM_REPEATED: return "this record's film is in the list twice";
-    case JUGFJORD_REFUSED_TABLES_TOO_SHORT: return "a table is too short";
+    case JUGFJORD_REFUSED_TABLES_TOO_SHORT: return "a table or the rack is too short";
     case JUGFJORD_REFUSED_TEXT_TOO_LONG: return "the text is too long";
     case JUGFJORD_REFUSED_LINE: return "this line is no line of a plan";
     case JUGFJORD_REFUSED_NOT_WELL_FORMED: return "the plan in the tables is not well formed";
     case JUGFJORD_REFUSED_SPACE_TOO_SHORT: return "the space for the text is too short";
+    case JUGFJORD_REFUSED_DISKS_OUT_OF_RANGE: return "disks, slots or streams are out of range";
+    case JUGFJORD_REFUSED_RATIO_DIFFERS: return "this disk's ratio of streams to slots is not that of disk 1";
     default: return "an unknown refusal";
     }
 }
 
-/* Whether a call was refused; says so on standard error, with the record or the line where there is one. */
+/* Whether a call was refused; says so on standard error, with the record, the line or the disk where there is one. */
 static int refused(const char *call, uint32_t number, uint32_t second)
 {
     if (number != 0) fprintf(stderr, "%s: %s (refused %" PRIu32, call, words(number), number);
@@ -51,12 +53,13 @@ static uint8_t list_byte(uint32_t i)
 int main(void)
 {
     for (uint32_t i = 0; i < 8 * FILMS; i++) list[i] = list_byte(i);
+    jugfjord_equal_rack(made.rack, DISKS, SLOTS, STREAMS);
     struct jugfjord_planned planned =
-        jugfjord_plan(DISKS, SLOTS, STREAMS, list, sizeof list, made.copies, JUGFJORD_MOST_COPIES,
+        jugfjord_plan(made.rack, DISKS, list, sizeof list, made.copies, JUGFJORD_MOST_COPIES,
                       made.counts, JUGFJORD_MOST_DISKS, made.left, JUGFJORD_MOST_LEFT);
     if (refused("planning", planned.number, planned.second)) return 1;
     struct jugfjord_written written =
-        jugfjord_write(DISKS, SLOTS, STREAMS, made.copies, JUGFJORD_MOST_COPIES, made.counts, JUGFJORD_MOST_DISKS,
+        jugfjord_write(made.rack, DISKS, made.copies, JUGFJORD_MOST_COPIES, made.counts, JUGFJORD_MOST_DISKS,
                        made.left, JUGFJORD_MOST_LEFT, planned.left, text, sizeof text);
     if (refused("writing", written.number, written.second)) return 1;
     if (fwrite(text, 1, written.length, stdout) != written.length || fflush(stdout) != 0) {
@@ -67,7 +70,7 @@ int main(void)
     struct jugfjord_read_plan judged = jugfjord_judge(text, written.length);
     if (refused("judging", judged.number, judged.second)) return 1;
     struct jugfjord_read_plan read =
-        jugfjord_read(text, written.length, found.copies, JUGFJORD_MOST_COPIES,
+        jugfjord_read(text, written.length, found.rack, DISKS, found.copies, JUGFJORD_MOST_COPIES,
                       found.counts, JUGFJORD_MOST_DISKS, found.left, JUGFJORD_MOST_LEFT);
     if (refused("reading", read.number, read.second)) return 1;
     if (judged.served != planned.served || judged.unserved != planned.unserved

@@ -3,14 +3,19 @@
 #include <inttypes.h>
 #include <jugfjord.h>
 #include <stdio.h>
+#include <string.h>
 
 enum { RECORDS = 1025, TEXT = 65537 };
 
+static const struct jugfjord_disk one_disk[1] = {{1, 1}};
+static struct jugfjord_disk rack[JUGFJORD_MOST_DISKS + 1];
 static uint64_t copies[1], left[1];
 static uint32_t counts[1];
 static uint8_t list[8 * RECORDS], text[TEXT];
 static const uint8_t empty_plan[] = "(rack 1 1 1)\n(disk 1)\n(left)\n(served 0 0)\n";
 static const size_t empty_plan_length = sizeof empty_plan - 1;
+static const uint8_t mixed_plan[] = "(mixed (4 8) (2 4))\n(disk 1 (2 3) (3 5))\n(disk 2 (1 3) (2 1))\n(left)\n(served 12 0)\n";
+static const size_t mixed_plan_length = sizeof mixed_plan - 1;
 static int right, wrong;
 
 /* Counts a call's answer as right or wrong: its number and second number. */
@@ -35,6 +40,13 @@ static void expect_number(const char *call, uint64_t number, uint64_t due)
     }
 }
 
+/* Counts the numbers of a disk as right or wrong. */
+static void expect_disk(const char *call, struct jugfjord_disk disk, uint32_t slots, uint32_t streams)
+{
+    expect_number(call, disk.slots, slots);
+    expect_number(call, disk.streams, streams);
+}
+
 /* Plans the first bytes of a list on one disk, in tables of one place. Of record 1 the lowest and the
  * third byte of its film and the third byte of its demand are given (a third byte counts 65,536s); all other bytes are 0. */
 static struct jugfjord_planned plan_record(uint8_t film_low, uint8_t film_high, uint8_t demand_high, size_t bytes)
@@ -42,25 +54,25 @@ static struct jugfjord_planned plan_record(uint8_t film_low, uint8_t film_high, 
     list[0] = film_low;
     list[2] = film_high;
     list[6] = demand_high;
-    return jugfjord_plan(1, 1, 1, list, bytes, copies, 1, counts, 1, left, 1);
+    return jugfjord_plan(one_disk, 1, list, bytes, copies, 1, counts, 1, left, 1);
 }
 
 /* Planning with nothing lent, and with nothing lent that it needs. */
 static void plan_of_nothing(void)
 {
-    struct jugfjord_planned p = jugfjord_plan(0, 0, 0, NULL, 0, NULL, 0, NULL, 0, NULL, 0);
-    expect("plan of no rack", p.number, p.second, JUGFJORD_REFUSED_RACK_OUT_OF_RANGE, 0);
-    p = jugfjord_plan(1, 1, 1, NULL, 0, NULL, 0, NULL, 0, NULL, 0);
+    struct jugfjord_planned p = jugfjord_plan(NULL, 0, NULL, 0, NULL, 0, NULL, 0, NULL, 0);
+    expect("plan of no rack", p.number, p.second, JUGFJORD_REFUSED_DISKS_OUT_OF_RANGE, 0);
+    p = jugfjord_plan(one_disk, 1, NULL, 0, NULL, 0, NULL, 0, NULL, 0);
     expect("plan without tables", p.number, p.second, JUGFJORD_REFUSED_TABLES_TOO_SHORT, 0);
-    p = jugfjord_plan(1, 1, 1, NULL, 0, copies, 1, NULL, 0, NULL, 0);
+    p = jugfjord_plan(one_disk, 1, NULL, 0, copies, 1, NULL, 0, NULL, 0);
     expect("plan without counts", p.number, p.second, JUGFJORD_REFUSED_TABLES_TOO_SHORT, 0);
-    p = jugfjord_plan(1, 1, 1, NULL, 0, NULL, 0, counts, 1, NULL, 0);
+    p = jugfjord_plan(one_disk, 1, NULL, 0, NULL, 0, counts, 1, NULL, 0);
     expect("plan without copies", p.number, p.second, JUGFJORD_REFUSED_TABLES_TOO_SHORT, 0);
-    p = jugfjord_plan(1, 1, 1, list, 8, copies, 1, counts, 1, NULL, 0);
+    p = jugfjord_plan(one_disk, 1, list, 8, copies, 1, counts, 1, NULL, 0);
     expect("plan without a left place", p.number, p.second, JUGFJORD_REFUSED_TABLES_TOO_SHORT, 0);
     copies[0] = 5;
     counts[0] = 5;
-    p = jugfjord_plan(1, 1, 1, NULL, 0, copies, 1, counts, 1, NULL, 0);
+    p = jugfjord_plan(one_disk, 1, NULL, 0, copies, 1, counts, 1, NULL, 0);
     expect("plan of no list", p.number, p.second, 0, 0);
     expect_number("its copy place", copies[0], 0);
     expect_number("its count", counts[0], 0);
@@ -92,7 +104,7 @@ static void plan_of_a_repeated_film(void)
 {
     static const uint8_t twice[16] = {7, 0, 0, 0, 1, 0, 0, 0, 7, 0, 0, 0, 2, 0, 0, 0};
     uint64_t two_left[2] = {3, 3};
-    struct jugfjord_planned p = jugfjord_plan(1, 1, 1, twice, sizeof twice, copies, 1, counts, 1, two_left, 2);
+    struct jugfjord_planned p = jugfjord_plan(one_disk, 1, twice, sizeof twice, copies, 1, counts, 1, two_left, 2);
     expect("film 7 twice", p.number, p.second, JUGFJORD_REFUSED_FILM_REPEATED, 2);
     expect_number("a left place after a refusal", two_left[0], 3);
 }
@@ -102,7 +114,7 @@ static void plan_of_shelf_films(void)
 {
     static const uint8_t unwatched[16] = {7, 0, 0, 0, 0, 0, 0, 0, 2, 0, 0, 0, 0, 0, 0, 0};
     uint64_t two_left[2] = {3, 3};
-    struct jugfjord_planned p = jugfjord_plan(1, 1, 1, unwatched, sizeof unwatched, copies, 1, counts, 1, two_left, 2);
+    struct jugfjord_planned p = jugfjord_plan(one_disk, 1, unwatched, sizeof unwatched, copies, 1, counts, 1, two_left, 2);
     expect("films 7 and 2 of demand 0", p.number, p.second, 0, 0);
     expect_number("their copy", copies[0], jugfjord_entry(2, 0));
     expect_number("their count", counts[0], 1);
@@ -112,40 +124,117 @@ static void plan_of_shelf_films(void)
     expect_number("their viewers", p.served + p.unserved, 0);
 }
 
+/* What planning and writing answer on the first so many entries of `rack`, with no list and no tables. */
+static void expect_rack(const char *call, size_t disks, uint32_t due, uint32_t due_second)
+{
+    struct jugfjord_planned p = jugfjord_plan(rack, disks, NULL, 0, NULL, 0, NULL, 0, NULL, 0);
+    struct jugfjord_written w = jugfjord_write(rack, disks, NULL, 0, NULL, 0, NULL, 0, 0, NULL, 0);
+    expect(call, p.number, p.second, due, due_second);
+    expect(call, w.number, w.second, due, due_second);
+}
+
+/* Racks: how many disks, disks out of range, and ratios. */
+static void racks(void)
+{
+    jugfjord_equal_rack(rack, JUGFJORD_MOST_DISKS + 1, 2, 4);
+    expect_disk("the last of 65 equal disks", rack[JUGFJORD_MOST_DISKS], 2, 4);
+    expect_rack("no disk", 0, JUGFJORD_REFUSED_DISKS_OUT_OF_RANGE, 0);
+    expect_rack("64 disks", JUGFJORD_MOST_DISKS, JUGFJORD_REFUSED_TABLES_TOO_SHORT, 0);
+    expect_rack("65 disks", JUGFJORD_MOST_DISKS + 1, JUGFJORD_REFUSED_DISKS_OUT_OF_RANGE, 0);
+    rack[1].slots = 4;
+    expect_rack("4 to 4 after 4 to 2", 3, JUGFJORD_REFUSED_RATIO_DIFFERS, 2);
+    rack[1].streams = 8;
+    expect_rack("8 to 4 after 4 to 2", 3, JUGFJORD_REFUSED_TABLES_TOO_SHORT, 0);
+    rack[2].slots = 3;
+    rack[2].streams = 7;
+    expect_rack("7 to 3 after 4 to 2", 3, JUGFJORD_REFUSED_RATIO_DIFFERS, 3);
+    rack[3].streams = 0;
+    expect_rack("no streams behind another ratio", 4, JUGFJORD_REFUSED_DISKS_OUT_OF_RANGE, 0);
+    rack[3].streams = 65536;
+    expect_rack("65,536 streams", 4, JUGFJORD_REFUSED_DISKS_OUT_OF_RANGE, 0);
+    rack[0].slots = 33;
+    expect_rack("33 slots", 1, JUGFJORD_REFUSED_DISKS_OUT_OF_RANGE, 0);
+    rack[0].slots = 0;
+    expect_rack("no slots", 1, JUGFJORD_REFUSED_DISKS_OUT_OF_RANGE, 0);
+}
+
+/* A large and a small disk: planned, written, judged and read back, also into a rack that is too short. */
+static void unequal_disks(void)
+{
+    static const struct jugfjord_disk disks[2] = {{4, 8}, {2, 4}};
+    static const uint8_t films[24] = {1, 0, 0, 0, 3, 0, 0, 0, 2, 0, 0, 0, 4, 0, 0, 0, 3, 0, 0, 0, 5, 0, 0, 0};
+    uint64_t own_copies[7], three_left[3] = {9, 9, 9};
+    uint32_t own_counts[2];
+    own_copies[6] = 9;
+    struct jugfjord_planned p = jugfjord_plan(disks, 2, films, sizeof films, own_copies, 5, own_counts, 2, three_left, 3);
+    expect("5 copy places for 6 slots", p.number, p.second, JUGFJORD_REFUSED_TABLES_TOO_SHORT, 0);
+    p = jugfjord_plan(disks, 2, films, sizeof films, own_copies, 7, own_counts, 2, three_left, 3);
+    expect("plan of a large and a small disk", p.number, p.second, 0, 0);
+    expect_number("its viewers", p.served, 12);
+    expect_number("the first copy of disk 1", own_copies[0], jugfjord_entry(2, 3));
+    expect_number("the unused place of disk 1", own_copies[3], 0);
+    expect_number("the first copy of disk 2, which was filled first", own_copies[4], jugfjord_entry(1, 3));
+    expect_number("the place beyond", own_copies[6], 9);
+    expect_number("the copies of disk 2", own_counts[1], 2);
+    struct jugfjord_written w = jugfjord_write(disks, 2, own_copies, 7, own_counts, 2, three_left, 3, p.left, text, TEXT);
+    expect_number("the length of its text", w.length, mixed_plan_length);
+    expect_number("the difference of its text", memcmp(text, mixed_plan, mixed_plan_length) != 0, 0);
+    struct jugfjord_read_plan j = jugfjord_judge(mixed_plan, mixed_plan_length);
+    expect("judgement of its text", j.number, j.second, 0, 0);
+    expect_number("its disks", j.disks, 2);
+    jugfjord_equal_rack(rack, 3, 7, 7);
+    struct jugfjord_read_plan r =
+        jugfjord_read(mixed_plan, mixed_plan_length, rack, 1, own_copies, 7, own_counts, 2, three_left, 3);
+    expect("read into a rack of one entry", r.number, r.second, JUGFJORD_REFUSED_TABLES_TOO_SHORT, 0);
+    expect_disk("an entry after a refusal", rack[0], 7, 7);
+    r = jugfjord_read(mixed_plan, mixed_plan_length, rack, 3, own_copies, 7, own_counts, 2, three_left, 3);
+    expect("read into a rack of three entries", r.number, r.second, 0, 0);
+    expect_disk("disk 1", rack[0], 4, 8);
+    expect_disk("disk 2", rack[1], 2, 4);
+    expect_disk("the entry beyond", rack[2], 7, 7);
+}
+
 /* Writing with nothing lent, without space, and of tables that are no plan. */
 static void writing(void)
 {
-    struct jugfjord_written w = jugfjord_write(0, 0, 0, NULL, 0, NULL, 0, NULL, 0, 0, NULL, 0);
-    expect("write of no rack", w.number, w.second, JUGFJORD_REFUSED_RACK_OUT_OF_RANGE, 0);
-    w = jugfjord_write(1, 1, 1, NULL, 0, NULL, 0, NULL, 0, 0, NULL, 0);
+    struct jugfjord_written w = jugfjord_write(NULL, 0, NULL, 0, NULL, 0, NULL, 0, 0, NULL, 0);
+    expect("write of no rack", w.number, w.second, JUGFJORD_REFUSED_DISKS_OUT_OF_RANGE, 0);
+    w = jugfjord_write(one_disk, 1, NULL, 0, NULL, 0, NULL, 0, 0, NULL, 0);
     expect("write without tables", w.number, w.second, JUGFJORD_REFUSED_TABLES_TOO_SHORT, 0);
     copies[0] = 0;
     counts[0] = 0;
-    w = jugfjord_write(1, 1, 1, copies, 1, counts, 1, NULL, 0, 1, text, TEXT);
+    w = jugfjord_write(one_disk, 1, copies, 1, counts, 1, NULL, 0, 1, text, TEXT);
     expect("write without a left place", w.number, w.second, JUGFJORD_REFUSED_TABLES_TOO_SHORT, 0);
-    w = jugfjord_write(1, 1, 1, copies, 1, counts, 1, NULL, 0, 0, NULL, 0);
+    w = jugfjord_write(one_disk, 1, copies, 1, counts, 1, NULL, 0, 0, NULL, 0);
     expect("write without space", w.number, w.second, JUGFJORD_REFUSED_SPACE_TOO_SHORT, 0);
-    w = jugfjord_write(1, 1, 1, copies, 1, counts, 1, NULL, 0, 0, text, empty_plan_length);
+    w = jugfjord_write(one_disk, 1, copies, 1, counts, 1, NULL, 0, 0, text, empty_plan_length);
     expect("write of the empty plan", w.number, w.second, 0, 0);
     expect_number("its length", w.length, empty_plan_length);
     counts[0] = 1;
-    w = jugfjord_write(1, 1, 1, copies, 1, counts, 1, NULL, 0, 0, NULL, 0);
+    w = jugfjord_write(one_disk, 1, copies, 1, counts, 1, NULL, 0, 0, NULL, 0);
     expect("write of film 0", w.number, w.second, JUGFJORD_REFUSED_NOT_WELL_FORMED, 0);
 }
 
 /* Reading with nothing lent, and a text that is too long. */
 static void reading(void)
 {
-    struct jugfjord_read_plan r = jugfjord_read(NULL, 0, NULL, 0, NULL, 0, NULL, 0);
+    struct jugfjord_read_plan r = jugfjord_read(NULL, 0, NULL, 0, NULL, 0, NULL, 0, NULL, 0);
     expect("read of no text", r.number, r.second, JUGFJORD_REFUSED_LINE, 1);
-    r = jugfjord_read(empty_plan, empty_plan_length, NULL, 0, NULL, 0, NULL, 0);
+    r = jugfjord_read(empty_plan, empty_plan_length, NULL, 0, NULL, 0, NULL, 0, NULL, 0);
+    expect("read without rack and tables", r.number, r.second, JUGFJORD_REFUSED_TABLES_TOO_SHORT, 0);
+    r = jugfjord_read(empty_plan, empty_plan_length, rack, 1, NULL, 0, NULL, 0, NULL, 0);
     expect("read without tables", r.number, r.second, JUGFJORD_REFUSED_TABLES_TOO_SHORT, 0);
-    r = jugfjord_read(text, TEXT, NULL, 0, NULL, 0, NULL, 0);
+    r = jugfjord_read(empty_plan, empty_plan_length, NULL, 0, copies, 1, counts, 1, NULL, 0);
+    expect("read without a rack", r.number, r.second, JUGFJORD_REFUSED_TABLES_TOO_SHORT, 0);
+    r = jugfjord_read(text, TEXT, NULL, 0, NULL, 0, NULL, 0, NULL, 0);
     expect("read of 65,537 bytes", r.number, r.second, JUGFJORD_REFUSED_TEXT_TOO_LONG, 0);
     copies[0] = 5;
-    r = jugfjord_read(empty_plan, empty_plan_length, copies, 1, counts, 1, NULL, 0);
+    jugfjord_equal_rack(rack, 2, 7, 7);
+    r = jugfjord_read(empty_plan, empty_plan_length, rack, 2, copies, 1, counts, 1, NULL, 0);
     expect("read of the empty plan", r.number, r.second, 0, 0);
     expect_number("its disks", r.disks, 1);
+    expect_disk("its disk", rack[0], 1, 1);
+    expect_disk("the entry beyond", rack[1], 7, 7);
     expect_number("its copy place", copies[0], 0);
 }
 
@@ -161,7 +250,7 @@ static void judging(void)
     expect("judgement of an unended line", j.number, j.second, JUGFJORD_REFUSED_LINE, 4);
     j = jugfjord_judge(empty_plan, empty_plan_length);
     expect("judgement of the empty plan", j.number, j.second, 0, 0);
-    expect_number("its slots", j.slots, 1);
+    expect_number("its disks", j.disks, 1);
     expect_number("its viewers not served", j.unserved, 0);
 }
 
@@ -171,6 +260,8 @@ int main(void)
     plan_of_lists();
     plan_of_a_repeated_film();
     plan_of_shelf_films();
+    racks();
+    unequal_disks();
     writing();
     reading();
     judging();

@@ -120,3 +120,12 @@ fn the_largest_list_of_disks_is_planned() {
     let folder = Folder::with("list.txt", list);
     assert_eq!(folder.run(&["plan", "list.txt"]).printed(), text);
 }
+
+#[test]
+fn the_sample_of_unequal_disks_has_the_plan_in_the_formats() {
+    let sample = concat!(env!("CARGO_MANIFEST_DIR"), "/../samples/ferry_mixed.txt");
+    let plan = Folder::new().run(&["plan", sample]);
+    let formats = include_str!("../../../docs/FORMAT.md");
+    let shown = format!("```\n{}```\n", plan.printed());
+    assert!(formats.contains(&shown), "{shown}");
+}
