@@ -148,8 +148,9 @@ class Case:
 
 
 def refusal(n, k, load, data, copies, counts, lefts):
+    """The first refusal of planning on n equal disks, or 0."""
     if not (1 <= n <= 64 and 1 <= k <= 32 and 1 <= load <= 65_535):
-        return 1
+        return 12
     if len(data) % 8:
         return 2
     if len(data) // 8 > 1_024:
@@ -198,7 +199,7 @@ def main():
             refused[why] += 1
             continue
         records = list(struct.iter_unpack("<II", data))
-        disks, left = plan(c.disks, c.slots, c.load, records)
+        disks, left = plan([(c.slots, c.load)] * c.disks, records)
         served, unserved = sums(disks, left)
         tally.update({"served": served, "left": unserved, "copies": sum(map(len, disks)), "left films": len(left)})
         plans[number % 10] += 1

@@ -49,7 +49,7 @@ def printed(data):
     numbers = refusal(disks, slots, load, data[12:])
     if numbers is not None:
         return form("refused", *numbers) + "\n"
-    copies, left = plan(disks, slots, load, list(struct.iter_unpack("<II", data[12:])))
+    copies, left = plan([(slots, load)] * disks, list(struct.iter_unpack("<II", data[12:])))
     lines = [form("rack", disks, slots, load)]
     lines += [form("disk", number, *pairs(disk)) for number, disk in enumerate(copies, 1)]
     lines += [form("left", *pairs(left)), form("served", *sums(copies, left))]

@@ -1,5 +1,5 @@
-"""The plan of a list that is not refused, from the words of document 01 and of 02's request P1 alone, for the scripts that make
-expected output."""
+"""The plan of a list that is not refused, from the words of document 01 and of 02's requests P1 and P2 alone, for the scripts that
+make expected output. A rack is a list of disks by number, each its slots and its load."""
 import bisect
 
 
@@ -28,11 +28,16 @@ def fill(films, slots, load):
     return copies
 
 
-def shelve(disks, slots, films):
+def filling_order(rack):
+    """The places of the disks in the order of filling: by ascending slots, equal ones by number."""
+    return sorted(range(len(rack)), key=lambda place: (rack[place][0], place))
+
+
+def shelve(disks, rack, films):
     """Puts films of demand 0, by ascending number, each on the lowest disk with a free slot; answers those that find none."""
     left = []
     for film in sorted(films):
-        with_room = [copies for copies in disks if len(copies) < slots]
+        with_room = [copies for copies, (slots, _) in zip(disks, rack) if len(copies) < slots]
         if with_room:
             with_room[0].append((film, 0))
         else:
@@ -40,11 +45,12 @@ def shelve(disks, slots, films):
     return left
 
 
-def plan(disks, slots, load, records):
-    """The copies of each disk and the left films, from records of film and demand."""
+def plan(rack, records):
+    """The copies of each disk by number and the left films, from records of film and demand."""
     films = sorted((demand, film) for film, demand in records if demand >= 1)
-    copies = [fill(films, slots, load) for _ in range(disks)]
-    left = shelve(copies, slots, [film for film, demand in records if demand == 0])
+    filled = {place: fill(films, *rack[place]) for place in filling_order(rack)}
+    copies = [filled[place] for place in range(len(rack))]
+    left = shelve(copies, rack, [film for film, demand in records if demand == 0])
     return copies, sorted(left + [(film, amount) for amount, film in films])
 
 
