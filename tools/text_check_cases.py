@@ -11,12 +11,12 @@ import re
 
 DATA = os.path.join(os.path.dirname(os.path.abspath(__file__)), "..", "crates", "text_check", "data")
 
-# What is done to the tables that a case lends: nothing; a place of a table set; a number of the rack or the number of left
-# films set; a table lent with fewer places.
+# What is done to the rack and the tables that a case lends: nothing; a place of a table set; how many entries the rack has, the
+# slots or the streams at a place of it, or the number of left films set; the rack or a table lent with fewer places.
 NOTHING = 0
 SET_FILM, SET_VIEWERS, SET_COUNT, SET_LEFT_FILM, SET_LEFT_AMOUNT = 1, 2, 3, 4, 5
 SET_DISKS, SET_SLOTS, SET_STREAMS, SET_LEFT = 6, 7, 8, 9
-LEND_COPIES, LEND_COUNTS, LEND_LEFT, LEND_SPACE = 11, 12, 13, 14
+LEND_RACK, LEND_COPIES, LEND_COUNTS, LEND_LEFT, LEND_SPACE = 10, 11, 12, 13, 14
 # A byte of the text set.
 SET_BYTE = 15
 
@@ -39,6 +39,10 @@ SHELF = b"""(rack 3 3 5)
 """
 MIXED = (b"(rack 3 2 65535)\n(disk 1 (65535 65534) (1 1))\n(disk 2)\n(disk 3 (100 90))\n"
          b"(left (1 1000000) (100 10) (65535 999999))\n(served 65625 2000009)\n")
+# A large disk and a small one; and disks of three sizes, two of them equal.
+UNEQUAL = b"(mixed (4 8) (2 4))\n(disk 1 (2 3) (3 5))\n(disk 2 (1 3) (2 1))\n(left)\n(served 12 0)\n"
+SIZES = (b"(mixed (10 25) (2 5) (32 80) (2 5))\n(disk 1 (7 0) (65535 25))\n(disk 2 (1 5))\n(disk 3)\n(disk 4 (1 4) (9 1))\n"
+         b"(left (1 1000000) (3 0))\n(served 35 1000000)\n")
 
 
 class Cases:
@@ -85,8 +89,23 @@ def text_of(disks, slots, streams, copies, left, served=None, unserved=None):
     return ("\n".join(lines) + "\n").encode()
 
 
+def text_of_disks(rack, copies, left):
+    """The text of a plan of these disks, each its slots and its streams, with a mixed line whatever they are."""
+    first, rest = text_of(len(rack), 1, 1, copies, left).split(b"\n", 1)
+    return b"(mixed" + pairs(rack).encode() + b")\n" + rest
+
+
+def largest_unequal():
+    """The longest text of a well-formed plan: 44,565 bytes."""
+    # Some disk has fewer than 32 slots, since the disks differ with one ratio.
+    rack = [(32, 65504)] * 63 + [(31, 63457)]
+    viewers = [10000] * 3 + [1000] * 29
+    copies = {d: list(zip(range(65535 - slots + 1, 65536), viewers)) for d, (slots, _) in enumerate(rack, 1)}
+    return text_of_disks(rack, copies, [(f, 1000000) for f in range(65535 - 1023, 65536)])
+
+
 def largest():
-    """The longest text of a well-formed plan: 43,885 bytes."""
+    """The longest text of a well-formed plan of equal disks: 43,885 bytes."""
     # 32 viewers of most digits whose sum is at most 65,535: three of five digits, the others of four.
     viewers = [16535, 10000, 10000] + [1000] * 29
     copies = {d: list(zip(range(65535 - 31, 65536), viewers)) for d in range(1, 65)}
@@ -395,6 +414,110 @@ def lending_file():
     c.write("lending")
 
 
+# ---- racks of unequal disks ----
+
+def first_lines(c):
+    """The first line of a text of two unequal disks damaged in every way, and in the place of others."""
+    line, rest = UNEQUAL.split(b"\n", 1)
+    for label, damaged in damages(line):
+        c.add("unequal_1_mixed_" + label, damaged + b"\n" + rest)
+    c.add("unequal_missing", rest)
+    c.add("unequal_twice", line + b"\n" + line + b"\n" + rest)
+    c.add("unequal_unended", line)
+    c.add("unequal_then_rack_line", line + b"\n(rack 2 4 8)\n" + rest)
+    c.add("rack_line_then_unequal", b"(rack 2 4 8)\n" + line + b"\n" + rest)
+    c.add("unequal_as_rack_of_disk_1", b"(rack 2 4 8)\n" + rest)
+    c.add("unequal_as_rack_of_disk_2", b"(rack 2 2 4)\n" + rest)
+
+
+def disks_of_a_line(c):
+    """Mixed lines of disks that may stand together, and of disks that may not."""
+    for label, rack in (("equal", [(4, 8), (4, 8)]), ("equal_three", [(1, 2)] * 3), ("one", [(4, 8)]), ("none", []),
+                        ("ratio_at_2", [(4, 8), (2, 5)]), ("ratio_at_3", [(2, 4), (4, 8), (3, 7)]),
+                        ("ratio_of_slots", [(2, 4), (3, 4)]), ("ratio_of_1", [(2, 5), (4, 8), (2, 4)]),
+                        ("parts_not_whole", [(2, 5), (4, 10)]), ("parts_below_one", [(4, 1), (32, 8)]),
+                        ("slots_0", [(0, 8), (2, 4)]), ("slots_0_streams_0", [(0, 0), (2, 4)]), ("streams_0", [(4, 0), (2, 0)]),
+                        ("slots_32", [(32, 64), (2, 4)]), ("slots_33", [(33, 66), (2, 4)]), ("slots_33_last", [(2, 4), (33, 66)]),
+                        ("streams_65535", [(5, 65535), (1, 13107)]), ("streams_65536", [(1, 4096), (16, 65536)]),
+                        ("slots_wrapped", [(2 ** 32 + 4, 8), (2, 4)]), ("streams_wrapped", [(4, 2 ** 32 + 8), (2, 4)]),
+                        ("both_wrapped", [(4, 8), (2 ** 64 + 2, 2 ** 64 + 4)]), ("product_wrapped", [(1, 2), (2 ** 31, 2 ** 32)]),
+                        ("last_differs", [(1, 2)] * 63 + [(2, 4)]), ("first_differs", [(2, 4)] + [(1, 2)] * 63),
+                        ("equal_64", [(1, 2)] * 64), ("disks_65", [(1, 2)] * 64 + [(2, 4)]), ("disks_200", [(1, 2), (2, 4)] * 100)):
+        c.add("disks_" + label, text_of_disks(rack, {}, []))
+
+
+def copies_of_disks(c):
+    """Disks that have their own slots and streams, and no others."""
+    for label, copies in (("slots_full", {1: [(f, 1) for f in range(1, 5)], 2: [(1, 1), (2, 1)]}),
+                          ("slots_passed_1", {1: [(f, 1) for f in range(1, 6)]}),
+                          ("slots_passed_2", {2: [(1, 1), (2, 1), (3, 1)]}),
+                          ("streams_full", {1: [(1, 8)], 2: [(1, 4)]}), ("streams_passed_1", {1: [(1, 9)]}),
+                          ("streams_passed_2", {2: [(1, 5)]}), ("exchanged", {1: [(1, 3), (2, 1)], 2: [(2, 3), (3, 5)]})):
+        c.add("unequal_" + label, text_of_disks([(4, 8), (2, 4)], copies, []))
+
+
+def racks_lent(c):
+    """Racks and tables too short for reading unequal disks, and racks too short for equal ones."""
+    for name, text, rack, copies in (("unequal", UNEQUAL, 2, 6), ("sizes", SIZES, 4, 46)):
+        for table, what, needed in (("rack", LEND_RACK, rack), ("copies", LEND_COPIES, copies), ("counts", LEND_COUNTS, rack)):
+            for size in (0, needed - 1, needed, needed + 1):
+                c.add("%s_%s_%d" % (name, table, size), text, what=what, value=size)
+    for name, text, rack in (("case_a", CASE_A, 3), ("small", SMALL, 1)):
+        for size in sorted({0, rack - 1, rack, rack + 1}):
+            c.add("%s_rack_%d" % (name, size), text, what=LEND_RACK, value=size)
+    c.add("nine_before_seven_rack", SMALL.replace(b"served 4", b"served 5"), what=LEND_RACK, value=0)
+    c.add("eight_before_seven_rack", SMALL, 65537, 10, what=LEND_RACK, value=0)
+
+
+def racks_file():
+    c = Cases()
+    c.add("unequal", UNEQUAL)
+    c.add("sizes", SIZES)
+    first_lines(c)
+    disks_of_a_line(c)
+    copies_of_disks(c)
+    racks_lent(c)
+    text = largest_unequal()
+    assert len(text) == 44565
+    c.add("largest_unequal", text)
+    for size in (63, 64):
+        c.add("largest_unequal_rack_%d" % size, text, what=LEND_RACK, value=size)
+    for size in (2046, 2047):
+        c.add("largest_unequal_copies_%d" % size, text, what=LEND_COPIES, value=size)
+    for total in (65536, 65537):
+        c.add("mixed_of_digits_%d" % total, b"(mixed (", total, 57)
+        c.add("mixed_of_opens_%d" % total, b"(mixed ", total, 40)
+    c.write("racks")
+
+
+def unequal_writing(c, sets):
+    """Calls of writing on unequal disks."""
+    c.add("unequal", UNEQUAL)
+    c.add("sizes", SIZES)
+    sets("unequal", UNEQUAL, SET_DISKS, "disks", 0, (0, 1, 2, 3))
+    sets("unequal", UNEQUAL, SET_SLOTS, "slots", 0, (0, 2, 4, 5, 33))
+    sets("unequal", UNEQUAL, SET_SLOTS, "slots", 1, (0, 2, 4, 33, 2 ** 32 - 1))
+    sets("unequal", UNEQUAL, SET_STREAMS, "streams", 0, (0, 4, 8, 65536))
+    sets("unequal", UNEQUAL, SET_STREAMS, "streams", 1, (0, 4, 8, 65536, 2 ** 32 - 1))
+    sets("sizes", SIZES, SET_STREAMS, "streams", 3, (0, 4, 5, 6))
+    sets("sizes", SIZES, SET_SLOTS, "slots", 2, (31, 32, 33))
+    # The places 2 and 3 of disk 1 are not used, and place 4 is the first of disk 2.
+    sets("unequal", UNEQUAL, SET_FILM, "film", 3, (0, 9))
+    sets("unequal", UNEQUAL, SET_FILM, "film", 4, (0, 2, 9))
+    sets("unequal", UNEQUAL, SET_FILM, "film", 6, (9,))
+    sets("unequal", UNEQUAL, SET_VIEWERS, "viewers", 1, (5, 6))
+    sets("unequal", UNEQUAL, SET_VIEWERS, "viewers", 5, (1, 2))
+    sets("unequal", UNEQUAL, SET_COUNT, "count", 0, (1, 2, 3, 4, 5))
+    sets("unequal", UNEQUAL, SET_COUNT, "count", 1, (1, 2, 3))
+    for table, what, needed in (("copies", LEND_COPIES, 6), ("counts", LEND_COUNTS, 2), ("space", LEND_SPACE, len(UNEQUAL))):
+        for size in (0, needed - 1, needed, needed + 1):
+            c.add("unequal_lent_%s_%d" % (table, size), UNEQUAL, what=what, value=size)
+    text = largest_unequal()
+    c.add("largest_unequal", text)
+    for size in (44564, 44565):
+        c.add("largest_unequal_lent_space_%d" % size, text, what=LEND_SPACE, value=size)
+
+
 def writing_file():
     c = Cases()
     big = (2 ** 16, 2 ** 31, 2 ** 32 - 1)
@@ -453,6 +576,7 @@ def writing_file():
     sets("shelf", SHELF, SET_LEFT_AMOUNT, "left_amount", 0, (1000000, 1000001))
     sets("shelf", SHELF, SET_LEFT_FILM, "left_film", 2, (0, 8))
     sets("shelf", SHELF, SET_LEFT, "left", 0, (2,))
+    unequal_writing(c, sets)
     c.write("writing")
 
 
@@ -461,4 +585,5 @@ if __name__ == "__main__":
     limits_file()
     long_file()
     lending_file()
+    racks_file()
     writing_file()

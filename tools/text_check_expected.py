@@ -5,9 +5,12 @@ They share nothing with the proved reader and writer. This reader splits the tex
 its form as a whole; this writer joins lines. The cases are those of crates/text_check/data.
 That a plan that was read is written the same, and that a refusal leaves every place, is what 01 demands.
 Usage: python3 tools/text_check_expected.py > crates/text_check/stdout
+With the argument --untouched it prints the digests of a fresh rack and fresh tables, and of a fresh space, which the program has as
+constants.
 """
 import os
 import re
+import sys
 
 DATA = os.path.join(os.path.dirname(os.path.abspath(__file__)), "..", "crates", "text_check", "data")
 
@@ -19,15 +22,31 @@ UNUSED_ENTRY = (UNUSED, UNUSED)
 NUMBER = rb"(0|[1-9][0-9]*)"
 RACK_LINE = re.compile(rb"\(rack " + NUMBER + rb" " + NUMBER + rb" " + NUMBER + rb"\)")
 PAIR = rb" \((?:0|[1-9][0-9]*) (?:0|[1-9][0-9]*)\)"
+MIXED_LINE = re.compile(rb"\(mixed((?:" + PAIR + rb")*)\)")
 DISK_LINE = re.compile(rb"\(disk " + NUMBER + rb"((?:" + PAIR + rb")*)\)")
 LEFT_LINE = re.compile(rb"\(left((?:" + PAIR + rb")*)\)")
 SERVED_LINE = re.compile(rb"\(served " + NUMBER + rb" " + NUMBER + rb"\)")
 
 
-# ---- document 01 and 02's request P1: well-formed plans, writing, reading ----
+# ---- document 01 and 02's requests P1 and P2: well-formed plans, writing, reading ----
+# A rack is a list of disks by number, each its slots and its streams.
 
-def rack_ok(disks, slots, streams):
-    return 1 <= disks <= 64 and 1 <= slots <= 32 and 1 <= streams <= 65535
+def disks_ok(rack):
+    return 1 <= len(rack) <= 64 and all(1 <= slots <= 32 and 1 <= streams <= 65535 for slots, streams in rack)
+
+
+def other_ratios(rack):
+    """The disks, from 1, whose streams times disk 1's slots are not disk 1's streams times their slots."""
+    slots, streams = rack[0]
+    return [d for d, (k, load) in enumerate(rack, 1) if load * slots != streams * k]
+
+
+def rack_ok(rack):
+    return disks_ok(rack) and not other_ratios(rack)
+
+
+def is_equal(rack):
+    return len(set(rack)) == 1
 
 
 def film_ok(film):
@@ -46,10 +65,10 @@ def left_ok(left):
             and all(a <= 1_000_000 for _, a in left))
 
 
-def render(disks, slots, streams, copies, left):
+def render(rack, copies, left):
     def pairs(entries):
         return "".join(" (%d %d)" % p for p in entries)
-    lines = ["(rack %d %d %d)" % (disks, slots, streams)]
+    lines = ["(rack %d %d %d)" % (len(rack), *rack[0]) if is_equal(rack) else "(mixed%s)" % pairs(rack)]
     lines += ["(disk %d%s)" % (d, pairs(c)) for d, c in enumerate(copies, 1)]
     lines += ["(left%s)" % pairs(left)]
     lines += ["(served %d %d)" % (sum(v for c in copies for _, v in c), sum(a for _, a in left))]
@@ -61,19 +80,32 @@ def pairs_of(body):
     return list(zip(numbers[0::2], numbers[1::2]))
 
 
+def rack_of(line):
+    """The rack of a first line of either form, or None."""
+    if m := RACK_LINE.fullmatch(line):
+        disks, slots, streams = (int(g) for g in m.groups())
+        rack = [(slots, streams)] * min(disks, 65)
+    elif m := MIXED_LINE.fullmatch(line):
+        rack = pairs_of(m.group(1))
+        if len(set(rack)) < 2:
+            return None
+    else:
+        return None
+    return rack if rack_ok(rack) else None
+
+
 def read_text(text):
     """8 or (9, line) or the plan: rack, copies by disk, left films."""
     if len(text) > 65536:
         return ("refused", 8, 0)
     ended = text.split(b"\n")
     rest = ended.pop()
-    if not ended or not (m := RACK_LINE.fullmatch(ended[0])):
+    rack = rack_of(ended[0]) if ended else None
+    if rack is None:
         return ("refused", 9, 1)
-    disks, slots, streams = (int(g) for g in m.groups())
-    if not rack_ok(disks, slots, streams):
-        return ("refused", 9, 1)
+    disks = len(rack)
     copies = []
-    for d in range(1, disks + 1):
+    for d, (slots, streams) in enumerate(rack, 1):
         m = DISK_LINE.fullmatch(ended[d]) if d < len(ended) else None
         if not m or int(m.group(1)) != d or not copies_ok(slots, streams, pairs_of(m.group(2))):
             return ("refused", 9, d + 1)
@@ -90,43 +122,49 @@ def read_text(text):
         return ("refused", 9, at + 1)
     if len(ended) > at + 1 or rest:
         return ("refused", 9, at + 2)
-    assert render(disks, slots, streams, copies, left) == text
-    return ("plan", (disks, slots, streams), copies, left, served, unserved)
+    assert render(rack, copies, left) == text
+    return ("plan", rack, copies, left, served, unserved)
 
 
 def fresh_tables():
-    """The copy, count and left tables; an entry is a film and a number."""
-    return [[UNUSED_ENTRY] * COPIES, [UNUSED] * DISKS, [UNUSED_ENTRY] * LEFT]
+    """The lent rack and the copy, count and left tables; an entry is a film and a number, or a disk's slots and streams."""
+    return [[UNUSED_ENTRY] * DISKS, [UNUSED_ENTRY] * COPIES, [UNUSED] * DISKS, [UNUSED_ENTRY] * LEFT]
+
+
+def all_slots(rack):
+    return sum(slots for slots, _ in rack)
 
 
 def store(tables, plan):
-    """The tables after reading a plan."""
-    (disks, slots, _), copies, left = plan[1:4]
-    for d in range(disks):
-        tables[0][d * slots:(d + 1) * slots] = copies[d] + [(0, 0)] * (slots - len(copies[d]))
-        tables[1][d] = len(copies[d])
-    tables[2][:len(left)] = left
+    """The lent rack and the tables after reading a plan."""
+    rack, copies, left = plan[1:4]
+    tables[0][:len(rack)] = rack
+    tables[1][:all_slots(rack)] = [p for c, (slots, _) in zip(copies, rack) for p in c + [(0, 0)] * (slots - len(c))]
+    tables[2][:len(rack)] = [len(c) for c in copies]
+    tables[3][:len(left)] = left
 
 
 def write_tables(rack, tables, left, space):
-    """A refusal's number, or the text of what the tables hold; space is how many bytes are lent."""
-    disks, slots, streams = rack
+    """A refusal's numbers, or the text of what the tables hold; space is how many bytes are lent."""
     entries, counts, lefts = tables
-    if not rack_ok(disks, slots, streams):
-        return 1
-    if len(entries) < disks * slots or len(counts) < disks or len(lefts) < left:
-        return 7
+    if not disks_ok(rack):
+        return (12,)
+    if other_ratios(rack):
+        return (13, other_ratios(rack)[0])
+    if len(entries) < all_slots(rack) or len(counts) < len(rack) or len(lefts) < left:
+        return (7,)
     copies = []
-    for d in range(disks):
-        here = entries[d * slots:(d + 1) * slots]
+    for d, (slots, streams) in enumerate(rack):
+        first = all_slots(rack[:d])
+        here = entries[first:first + slots]
         used = here[:counts[d]]
         if counts[d] > slots or not copies_ok(slots, streams, used) or any(p != (0, 0) for p in here[counts[d]:]):
-            return 10
+            return (10,)
         copies.append(used)
     if not left_ok(lefts[:left]):
-        return 10
-    text = render(disks, slots, streams, copies, lefts[:left])
-    return 11 if len(text) > space else text
+        return (10,)
+    text = render(rack, copies, lefts[:left])
+    return (11,) if len(text) > space else text
 
 
 # ---- the cases, and the lines that tell what happened ----
@@ -146,8 +184,8 @@ def cases(name):
 
 
 def lent(tables, what, value):
-    """The tables with the one that the case names cut to its places."""
-    return [t[:value] if what == 11 + i else t for i, t in enumerate(tables)]
+    """The rack and the tables with the one that the case names cut to its places."""
+    return [t[:value] if what == 10 + i else t for i, t in enumerate(tables)]
 
 
 def fold(digest, numbers):
@@ -157,20 +195,26 @@ def fold(digest, numbers):
 
 
 def table_digest(plan):
-    """An entry counts as one number, the film in its low 32 bits."""
+    """The digest of rack and tables after reading a plan, or of fresh ones without. An entry counts as one number, the film or
+    the slots in its low 32 bits."""
     tables = fresh_tables()
-    store(tables, plan)
-    copies, counts, left = tables
-    return fold(fold(fold(0, (f + (n << 32) for f, n in copies)), counts), (f + (n << 32) for f, n in left))
+    if plan is not None:
+        store(tables, plan)
+    rack, copies, counts, left = tables
+    digest = 0
+    for entries in (rack, copies):
+        digest = fold(digest, (f + (n << 32) for f, n in entries))
+    return fold(fold(digest, counts), (f + (n << 32) for f, n in left))
 
 
 def set_place(tables, what, place, value):
-    """A film or its number set in the copy table (1, 2) or the left table (4, 5), or a count set (3)."""
-    table = tables[(0, 0, 1, 2, 2)[what - 1]]
+    """A film or its number set in the copy table (1, 2) or the left table (4, 5), a count set (3), or slots or streams of the
+    rack (7, 8)."""
+    table = tables[{1: 1, 2: 1, 3: 2, 4: 3, 5: 3, 7: 0, 8: 0}[what]]
     if place < len(table):
         if what == 3:
             table[place] = value
-        elif what in (1, 4):
+        elif what in (1, 4, 7):
             table[place] = (value, table[place][1])
         else:
             table[place] = (table[place][0], value)
@@ -179,7 +223,7 @@ def set_place(tables, what, place, value):
 def outcome(answer):
     if answer[0] == "refused":
         return "refused %d" % answer[1] + (" %d" % answer[2] if answer[1] == 9 else "")
-    return "plan %d %d %d %d %d %d" % (answer[1] + (answer[4], answer[5], len(answer[3])))
+    return "plan %d %d %d %d" % (len(answer[1]), answer[4], answer[5], len(answer[3]))
 
 
 def reading(name):
@@ -187,8 +231,8 @@ def reading(name):
         judged = read_text(text)
         answer = judged
         if answer[0] == "plan":
-            disks, slots, _ = answer[1]
-            needed = (disks * slots, disks, len(answer[3]))
+            rack = answer[1]
+            needed = (len(rack), all_slots(rack), len(rack), len(answer[3]))
             if any(len(t) < n for t, n in zip(lent(fresh_tables(), what, value), needed)):
                 answer = ("refused", 7, 0)
         line = "%s: read %s, judged %s, " % (label, outcome(answer), outcome(judged))
@@ -204,24 +248,28 @@ def writing(name):
         plan = read_text(text)
         tables = fresh_tables()
         store(tables, plan)
-        rack, left = list(plan[1]), len(plan[3])
-        if 1 <= what <= 5:
+        disks, left = len(plan[1]), len(plan[3])
+        if what in (1, 2, 3, 4, 5, 7, 8):
             set_place(tables, what, place, value)
-        if 6 <= what <= 8:
-            rack[what - 6] = value
+        if what in (6, 10):
+            disks = value
         if what == 9:
             left = value
         space = value if what == 14 else SPACE
-        answer = write_tables(rack, lent(tables, what, value), left, space)
-        if isinstance(answer, int):
-            print("%s: refused %d, space untouched" % (label, answer))
+        rack = tables[0][:disks]
+        answer = write_tables(rack, lent(tables, what, value)[1:], left, space)
+        if isinstance(answer, tuple):
+            print("%s: refused %s, space untouched" % (label, " ".join(str(n) for n in answer)))
         else:
             filled = answer + bytes([UNUSED_BYTE]) * (SPACE - len(answer))
             print("%s: length %d, space %016x" % (label, len(answer), fold(0, filled)))
 
 
 def main():
-    for name in ("lines", "limits", "long", "lending"):
+    if "--untouched" in sys.argv:
+        print(table_digest(None), fold(0, bytes([UNUSED_BYTE]) * SPACE))
+        return
+    for name in ("lines", "limits", "long", "lending", "racks"):
         print("reading " + name)
         reading(name)
     print("writing")
