@@ -288,7 +288,11 @@ fn shelf_copies_go_by_number_whatever_the_slots() {
     let rack = vec![disk(2, 4), disk(1, 2)];
     let list = [(7, 0), (1, 2), (6, 0), (5, 0)];
     let disks: [&[Pair]; 2] = [&[(5, 0), (6, 0)], &[(1, 2)]];
-    expect(rack, &list, &disks, &[(7, 0)], (2, 0));
+    expect(rack.clone(), &list, &disks, &[(7, 0)], (2, 0));
+    // Disk 2 has the fewest slots, and gets the last film.
+    let list = [(7, 0), (6, 0), (5, 0)];
+    let disks: [&[Pair]; 2] = [&[(5, 0), (6, 0)], &[(7, 0)]];
+    expect(rack, &list, &disks, &[], (0, 0));
 }
 
 #[test]

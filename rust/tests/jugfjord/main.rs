@@ -10,6 +10,7 @@ mod guarded;
 mod lists;
 mod planning;
 mod plans;
+mod rack_edges;
 mod racks;
 mod reading;
 mod refusals;
