@@ -46,16 +46,39 @@ pub fn lists() -> [Input; 4] {
     ]
 }
 
-/// Racks of 64 disks with the same slots and streams in sum: equal disks, and small and large ones
-/// by turns.
-pub fn racks_of_equal_sums() -> [Vec<Disk>; 2] {
+/// Small and large disks by turns, 64 of them, and 64 equal ones with the same slots and streams in
+/// sum.
+pub struct RackPair {
+    pub name: &'static str,
+    pub unequal: Vec<Disk>,
+    pub equal: Vec<Disk>,
+}
+
+pub fn racks_of_equal_sums() -> [RackPair; 2] {
     let disk = |slots, streams| Disk::new(Slots(slots), Streams(streams));
-    let equal = vec![disk(16, 500); MOST_DISKS as usize];
-    let unequal = [disk(24, 750), disk(8, 250)].repeat(MOST_DISKS as usize / 2);
+    let racks = |name, [large, small]: [Disk; 2], middle| RackPair {
+        name,
+        unequal: [large, small].repeat(MOST_DISKS as usize / 2),
+        equal: vec![middle; MOST_DISKS as usize],
+    };
+    let pairs = [
+        racks(
+            "(30 300) and (10 100), (20 200)",
+            [disk(30, 300), disk(10, 100)],
+            disk(20, 200),
+        ),
+        racks(
+            "(24 750) and (8 250), (16 500)",
+            [disk(24, 750), disk(8, 250)],
+            disk(16, 500),
+        ),
+    ];
     let streams = |rack: &[Disk]| rack.iter().map(|disk| disk.streams.0).sum::<u32>();
-    assert_eq!(places(&equal), places(&unequal));
-    assert_eq!(streams(&equal), streams(&unequal));
-    [equal, unequal]
+    for RackPair { unequal, equal, .. } in &pairs {
+        assert_eq!(places(unequal), places(equal));
+        assert_eq!(streams(unequal), streams(equal));
+    }
+    pairs
 }
 
 /// Zipf-like demands in order of rank, for films shuffled by a xorshift generator.

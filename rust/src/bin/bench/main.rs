@@ -7,7 +7,7 @@ mod timing;
 
 use std::hint::black_box;
 
-use inputs::Input;
+use inputs::{Input, RackPair};
 use jugfjord::ffi::Planned;
 use jugfjord::rack::{records, Disk};
 use jugfjord::reference::plan::Plan;
@@ -26,9 +26,13 @@ fn main() {
         let inserting = plan_both(&input, rolling::plan_by_insertion);
         show_time("  Rust builds its list by insertion", &inserting);
     }
-    println!("planning by the library: 64 unequal disks, 64 equal ones with the same sums, ratio");
-    for input in inputs::lists() {
-        show_time(input.name, &plan_unequal(&input));
+    for racks in inputs::racks_of_equal_sums() {
+        let RackPair { name, .. } = &racks;
+        println!("planning on 64 unequal disks, on 64 equal ones, ratio: {name}");
+        for input in inputs::lists() {
+            show_time(input.name, &plan_unequal(&input, &racks, wrap::plan));
+            show_time("  by Rust", &plan_unequal(&input, &racks, rolling::plan));
+        }
     }
     for (disks, plan, length) in inputs::plans() {
         let text = inputs::text(&plan, length);
@@ -55,16 +59,16 @@ fn plan_both(input: &Input, rival: Planner) -> Comparison {
     )
 }
 
-/// Checks the library's plans of the input's list on unequal disks and on equal ones with the same
-/// sums, then times them.
-fn plan_unequal(input: &Input) -> Comparison {
+/// Checks the plans of the input's list on unequal disks and on equal ones with the same sums, then
+/// times one planner on both.
+fn plan_unequal(input: &Input, racks: &RackPair, planner: Planner) -> Comparison {
     let list = records(&input.demands);
-    let [equal, unequal] = inputs::racks_of_equal_sums();
-    let mut on_unequal = checked(&unequal, input, rolling::plan);
-    let mut on_equal = checked(&equal, input, rolling::plan);
+    let RackPair { unequal, equal, .. } = racks;
+    let mut on_unequal = checked(unequal, input, rolling::plan);
+    let mut on_equal = checked(equal, input, rolling::plan);
     compare(
-        || wrap::plan(black_box(&unequal), black_box(&list), on_unequal.lend()),
-        || wrap::plan(black_box(&equal), black_box(&list), on_equal.lend()),
+        || planner(black_box(unequal), black_box(&list), on_unequal.lend()),
+        || planner(black_box(equal), black_box(&list), on_equal.lend()),
     )
 }
 
