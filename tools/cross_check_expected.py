@@ -3,7 +3,8 @@
 The generator draws the same cases as the program does. The planner, in sliding_window.py, shares nothing with the program: the list
 is a sorted Python list of (demand, film), and a split film is inserted anew. The last line says what the comparison has to find.
 Usage: python3 tools/cross_check_expected.py > crates/cross_check/stdout
-With the argument --families the refusals by number, the plans by family and what films of demand 0 meet go to standard error.
+With the argument --families the refusals by number, the disks that 13 names and the refusals behind it, the plans by family, what
+films of demand 0 meet, and which racks of unequal disks there are go to standard error.
 """
 import struct
 import sys
@@ -56,6 +57,23 @@ FAMILIES = {
 }
 
 
+def setting(what, n):
+    """The fault that sets a disk's slots (0) or its load (1)."""
+    return lambda disk: disk.__setitem__(what, n)
+
+
+def adding(what, n):
+    """The fault that adds to a disk's slots (0) or its load (1)."""
+    return lambda disk: disk.__setitem__(what, disk[what] + n)
+
+
+# The faults of a disk: a number at or beyond its limits, or one more or one fewer than the ratio wants.
+DISK_FAULTS = {
+    2: setting(0, 0), 3: setting(0, 33), 4: setting(1, 0), 5: setting(1, 65_536),
+    15: adding(1, 1), 16: adding(1, 1), 17: adding(1, -1), 18: adding(0, 1), 19: adding(0, -1),
+}
+
+
 class Case:
     def __init__(self, number):
         self.number = number
@@ -66,7 +84,8 @@ class Case:
         self.load = from_to(number, 2, 1, load)
         self.records = from_to(number, 3, 0, records)
         self.folds, self.doubled, self.odd_bytes, self.short = 1, 0, 0, 0
-        self.faults = []
+        self.sizes = 1
+        self.faults, self.disk_faults = [], []
         if family == 2:
             self.folds = 3
         if family == 3:
@@ -80,26 +99,44 @@ class Case:
                 self.low = 1_000_000
             if number % 2_500 == 7:
                 self.records, self.low = 1_024, 0
+        if family >= 8 and draw(number, 19, 2) == 0:
+            self.disks = from_to(number, 0, 5, 64)
+        if draw(number, 17, 4) > 0:
+            self.unequal(family)
         if family >= 8:
-            self.fault(draw(number, 6, 15))
+            self.fault(draw(number, 6, 20), 25)
         if family == 9:
-            self.fault(draw(number, 7, 15))
+            self.fault(draw(number, 7, 20), 26)
 
-    def fault(self, fault):
+    def unequal(self, family):
+        """Disks of several sizes: up to so many times the slots and the load, as far as the ranges go."""
+        if family == 7:
+            self.slots, self.load = from_to(self.number, 1, 1, 16), from_to(self.number, 2, 1, 16_383)
+        self.sizes = min(from_to(self.number, 18, 2, 8), 32 // self.slots, 65_535 // self.load)
+
+    def fault(self, fault, place):
         if fault in (0, 1):
             self.disks = (0, 65)[fault]
-        elif fault in (2, 3):
-            self.slots = (0, 33)[fault - 2]
-        elif fault in (4, 5):
-            self.load = (0, 65_536)[fault - 4]
         elif fault == 6:
             self.odd_bytes = from_to(self.number, 9, 1, 7)
         elif fault == 7:
             self.records = from_to(self.number, 10, 1_025, 1_029)
         elif fault in (8, 9):
             self.short = from_to(self.number, 11, 1, 3)
+        elif fault in DISK_FAULTS:
+            self.disk_faults.append((fault, place))
         else:
             self.faults.append(fault)
+
+    def rack(self):
+        """The disks, each its slots and its load."""
+        sizes = [from_to(self.number, 6_000 + d, 1, self.sizes) for d in range(self.disks)]
+        disks = [[self.slots * size, self.load * size] for size in sizes]
+        for fault, place in self.disk_faults if disks else ():
+            which = draw(self.number, place, 4)
+            d = (0, self.disks - 1)[which] if which < 2 else draw(self.number, place + 64, self.disks)
+            DISK_FAULTS[fault](disks[d])
+        return [tuple(disk) for disk in disks]
 
     def own_film(self, i):
         way = draw(self.number, 12, 4)
@@ -147,15 +184,25 @@ class Case:
         return bytes(data) + bytes(self.odd_bytes)
 
 
-def refusal(n, k, load, data, copies, counts, lefts):
-    """The first refusal of planning on n equal disks, or 0."""
-    if not (1 <= n <= 64 and 1 <= k <= 32 and 1 <= load <= 65_535):
-        return 12
+def rack_refusal(rack):
+    """12 or 13 and the second number, or (0, 0)."""
+    if not 1 <= len(rack) <= 64 or any(not (1 <= slots <= 32 and 1 <= load <= 65_535) for slots, load in rack):
+        return 12, 0
+    for number, (slots, load) in enumerate(rack, 1):
+        if load * rack[0][0] != rack[0][1] * slots:
+            return 13, number
+    return 0, 0
+
+
+def refusal(rack, data, copies, counts, lefts):
+    """The first refusal of planning, or 0."""
+    if rack_refusal(rack)[0]:
+        return rack_refusal(rack)[0]
     if len(data) % 8:
         return 2
     if len(data) // 8 > 1_024:
         return 3
-    if copies < n * k or counts < n or lefts < len(data) // 8:
+    if copies < sum(slots for slots, _ in rack) or counts < len(rack) or lefts < len(data) // 8:
         return 7
     seen = set()
     for at in range(0, len(data), 8):
@@ -171,12 +218,12 @@ def refusal(n, k, load, data, copies, counts, lefts):
     return 0
 
 
-def met(slots, records, copies, left):
+def met(rack, records, copies, left):
     """What the films of demand 0 of a list meet, in words to count."""
     shelf = sum(demand == 0 for _, demand in records)
     amounts = [amount for _, amount in left]
     shelved = [bool(disk) and disk[-1][1] == 0 for disk in copies]
-    full = [len(disk) == slots and disk[-1][1] > 0 for disk in copies]
+    full = [len(disk) == slots and disk[-1][1] > 0 for disk, (slots, _) in zip(copies, rack)]
     return {
         "lists with some": shelf > 0,
         "with three or more": shelf > 2,
@@ -188,28 +235,53 @@ def met(slots, records, copies, left):
     }
 
 
+def kinds(rack, copies):
+    """What racks of unequal disks there are, in words to count."""
+    slots = [slots for slots, _ in rack]
+    equal = any(slots.count(k) > 1 and sum(map(bool, (c for c, n in zip(copies, slots) if n == k))) > 1 for k in set(slots))
+    return {
+        "racks": True,
+        "not ascending": slots != sorted(slots),
+        "of three sizes or more": len(set(slots)) > 2,
+        "with copies on two equal disks": equal,
+        "with copies on all disks": all(copies),
+        "of a ratio that is not whole": rack[0][1] % rack[0][0] > 0,
+        "with 64 disks": len(rack) == 64,
+        "with 32 slots": 32 in slots,
+        "with a load above 60,000": max(load for _, load in rack) > 60_000,
+    }
+
+
 def main():
-    refused, plans, shelf, tally = Counter(), Counter(), Counter(), Counter()
+    refused, ratios, behind, plans, shelf, unequal, tally = (Counter() for _ in range(7))
     for number in range(CASES):
         c = Case(number)
-        data = c.list()
-        copies, counts, lefts = c.length(1, c.disks * c.slots), c.length(2, c.disks), c.length(3, c.records)
-        why = refusal(c.disks, c.slots, c.load, data, copies, counts, lefts)
+        rack, data = c.rack(), c.list()
+        needed = sum(slots for slots, _ in rack), len(rack), c.records
+        lent = [c.length(table, n) for table, n in enumerate(needed, 1)]
+        why = refusal(rack, data, *lent)
         if why:
             refused[why] += 1
+            if why == 13:
+                ratios[rack_refusal(rack)[1]] += 1
+                behind[refusal(rack[:1], data, *lent)] += 1
             continue
         records = list(struct.iter_unpack("<II", data))
-        disks, left = plan([(c.slots, c.load)] * c.disks, records)
+        disks, left = plan(rack, records)
         served, unserved = sums(disks, left)
-        tally.update({"served": served, "left": unserved, "copies": sum(map(len, disks)), "left films": len(left)})
+        mixed = len(set(rack)) > 1
+        tally.update({"mixed": mixed, "served": served, "left": unserved, "copies": sum(map(len, disks)), "left films": len(left)})
         plans[number % 10] += 1
-        shelf.update(met(c.slots, records, disks, left))
+        shelf.update(met(rack, records, disks, left))
+        unequal.update(kinds(rack, disks) if mixed else {})
     if "--families" in sys.argv:
         print("refusals:", sorted(refused.items()), "plans:", sorted(plans.items()), file=sys.stderr)
+        print("disks named by 13:", sorted(ratios.items()), "refusals behind it:", sorted(behind.items()), file=sys.stderr)
         print("films of demand 0:", dict(shelf), file=sys.stderr)
+        print("unequal disks:", dict(unequal), file=sys.stderr)
     print("cases", CASES)
     print("refused", sum(refused.values()))
-    print("\n".join(f"{word} {tally[word]}" for word in ("served", "left", "copies", "left films")))
+    print("\n".join(f"{word} {tally[word]}" for word in ("mixed", "served", "left", "copies", "left films")))
     print("differ 0")
 
 

@@ -19,6 +19,8 @@ SET_DISKS, SET_SLOTS, SET_STREAMS, SET_LEFT = 6, 7, 8, 9
 LEND_RACK, LEND_COPIES, LEND_COUNTS, LEND_LEFT, LEND_SPACE = 10, 11, 12, 13, 14
 # A byte of the text set.
 SET_BYTE = 15
+# The disk at a place made like the one at place VALUE, and the rack as many disks as that needs.
+SET_LIKE = 16
 
 CASE_A = b"""(rack 3 4 6)
 (disk 1 (8 1) (9 1) (10 1) (11 3))
@@ -37,8 +39,8 @@ SHELF = b"""(rack 3 3 5)
 (left (6 0) (8 4) (10 0))
 (served 10 4)
 """
-MIXED = (b"(rack 3 2 65535)\n(disk 1 (65535 65534) (1 1))\n(disk 2)\n(disk 3 (100 90))\n"
-         b"(left (1 1000000) (100 10) (65535 999999))\n(served 65625 2000009)\n")
+VARIED = (b"(rack 3 2 65535)\n(disk 1 (65535 65534) (1 1))\n(disk 2)\n(disk 3 (100 90))\n"
+          b"(left (1 1000000) (100 10) (65535 999999))\n(served 65625 2000009)\n")
 # A large disk and a small one; and disks of three sizes, two of them equal.
 UNEQUAL = b"(mixed (4 8) (2 4))\n(disk 1 (2 3) (3 5))\n(disk 2 (1 3) (2 1))\n(left)\n(served 12 0)\n"
 SIZES = (b"(mixed (10 25) (2 5) (32 80) (2 5))\n(disk 1 (7 0) (65535 25))\n(disk 2 (1 5))\n(disk 3)\n(disk 4 (1 4) (9 1))\n"
@@ -68,6 +70,7 @@ class Cases:
         self.data += head.encode() + given + b"\n"
 
     def write(self, name):
+        assert len(self.data) <= 131_072, name
         os.makedirs(DATA, exist_ok=True)
         with open(os.path.join(DATA, name), "wb") as f:
             f.write(self.data)
@@ -198,36 +201,47 @@ def kinds(text):
     return [(re.sub(rb"[^a-z]", b"", line).decode(), line) for line in lines]
 
 
+def misplaced(c, base, lines, n):
+    """Line n of these missing, twice, unended, joined, cut, or in the place of another."""
+    line, before, after = lines[n - 1], joined(lines[:n - 1]), joined(lines[n:])
+    c.add(base + "missing", before + after)
+    c.add(base + "missing_from_here", before)
+    c.add(base + "twice", before + line + b"\n" + line + b"\n" + after)
+    c.add(base + "unended", before + line)
+    c.add(base + "joined", before + line + after)
+    c.add(base + "cut_inside", before + line[:6])
+    c.add(base + "feed_for_close", before + line[:-1] + b"\n" + after)
+    for m, other in enumerate(lines, 1):
+        if other != line:
+            c.add(base + "is_line_%d" % m, before + other + b"\n" + after)
+    if after:
+        c.add(base + "after_the_next", before + joined([lines[n], line] + lines[n + 1:]))
+
+
+def joined(lines):
+    """Lines, each ended by a line feed."""
+    return b"".join(line + b"\n" for line in lines)
+
+
+def damaged_lines(c, name, text, damaged):
+    """Each line of a text misplaced, those of these numbers also damaged in every way, and bytes after the text."""
+    lines = text.split(b"\n")[:-1]
+    for n, (kind, line) in enumerate(kinds(text), 1):
+        base = "%s_%d_%s_" % (name, n, kind)
+        for label, other in damages(line) if n in damaged else ():
+            c.add(base + label, joined(lines[:n - 1] + [other] + lines[n:]))
+        misplaced(c, base, lines, n)
+    for label, tail in (("byte", b"("), ("feed", b"\n"), ("space", b" "), ("zero", b"\0"), ("foreign", b"\xff"),
+                        ("return", b"\r"), ("line", b"(served 0 0)\n"), ("left", b"(left)\n"), ("text", text)):
+        c.add("%s_then_%s" % (name, label), text + tail)
+
+
 def lines_file():
     c = Cases()
-    for name, text in (("case_a", CASE_A), ("small", SMALL), ("empty", EMPTY), ("mixed", MIXED)):
+    for name, text in (("case_a", CASE_A), ("small", SMALL), ("empty", EMPTY), ("varied", VARIED)):
         c.add(name, text)
-    for name, text in (("small", SMALL), ("empty", EMPTY)):
-        ls = text.split(b"\n")[:-1]
-        for n, (kind, line) in enumerate(kinds(text), 1):
-            base = "%s_%d_%s_" % (name, n, kind)
-            before = b"".join(x + b"\n" for x in ls[:n - 1])
-            after = b"".join(x + b"\n" for x in ls[n:])
-            if name == "small" or name == "empty" and kind in ("disk", "left") and n > 2:
-                for label, damaged in damages(line):
-                    c.add(base + label, before + damaged + b"\n" + after)
-            c.add(base + "missing", before + after)
-            c.add(base + "missing_from_here", before)
-            c.add(base + "twice", before + line + b"\n" + line + b"\n" + after)
-            c.add(base + "unended", before + line)
-            c.add(base + "joined", before + line + after)
-            c.add(base + "cut_inside", before + line[:6])
-            c.add(base + "feed_for_close", before + line[:-1] + b"\n" + after)
-            for m, other in enumerate(ls, 1):
-                if other != line:
-                    c.add(base + "is_line_%d" % m, before + other + b"\n" + after)
-            if after:
-                second = after.split(b"\n")[0]
-                rest = after[len(second) + 1:]
-                c.add(base + "after_the_next", before + second + b"\n" + line + b"\n" + rest)
-        for label, tail in (("byte", b"("), ("feed", b"\n"), ("space", b" "), ("zero", b"\0"), ("foreign", b"\xff"),
-                            ("return", b"\r"), ("line", b"(served 0 0)\n"), ("left", b"(left)\n"), ("text", text)):
-            c.add("%s_then_%s" % (name, label), text + tail)
+    damaged_lines(c, "small", SMALL, (1, 2, 3, 4))
+    damaged_lines(c, "empty", EMPTY, (3, 4))
     c.add("no_bytes", b"")
     for label, text in (("feed_only", b"\n"), ("two_feeds", b"\n\n"), ("refused_1", b"(refused 1)\n"),
                         ("refused_9_1", b"(refused 9 1)\n"), ("zero_byte", b"\0"), ("open_only", b"("),
@@ -416,18 +430,15 @@ def lending_file():
 
 # ---- racks of unequal disks ----
 
-def first_lines(c):
-    """The first line of a text of two unequal disks damaged in every way, and in the place of others."""
+def unequal_file():
+    c = Cases()
     line, rest = UNEQUAL.split(b"\n", 1)
-    for label, damaged in damages(line):
-        c.add("unequal_1_mixed_" + label, damaged + b"\n" + rest)
-    c.add("unequal_missing", rest)
-    c.add("unequal_twice", line + b"\n" + line + b"\n" + rest)
-    c.add("unequal_unended", line)
+    damaged_lines(c, "unequal", UNEQUAL, (1, 3, 4, 5))
     c.add("unequal_then_rack_line", line + b"\n(rack 2 4 8)\n" + rest)
     c.add("rack_line_then_unequal", b"(rack 2 4 8)\n" + line + b"\n" + rest)
     c.add("unequal_as_rack_of_disk_1", b"(rack 2 4 8)\n" + rest)
     c.add("unequal_as_rack_of_disk_2", b"(rack 2 2 4)\n" + rest)
+    c.write("unequal")
 
 
 def disks_of_a_line(c):
@@ -473,7 +484,6 @@ def racks_file():
     c = Cases()
     c.add("unequal", UNEQUAL)
     c.add("sizes", SIZES)
-    first_lines(c)
     disks_of_a_line(c)
     copies_of_disks(c)
     racks_lent(c)
@@ -488,6 +498,17 @@ def racks_file():
         c.add("mixed_of_digits_%d" % total, b"(mixed (", total, 57)
         c.add("mixed_of_opens_%d" % total, b"(mixed ", total, 40)
     c.write("racks")
+
+
+# Texts and the places of two disks, of which the first is made like the second: unequal disks become equal, or one of another
+# size, a rack has one disk more, 65, or one that nobody filled.
+FEW = b"(mixed (2 4) (4 8))\n(disk 1 (1 1))\n(disk 2 (2 1) (3 3))\n(left)\n(served 5 0)\n"
+THREE = b"(mixed (2 4) (4 8) (2 4))\n(disk 1 (1 1) (5 3))\n(disk 2)\n(disk 3)\n(left (5 1))\n(served 4 1)\n"
+MOST = text_of_disks([(1, 2)] * 63 + [(2, 4)], {}, [])
+LIKE = (("few", FEW, 1, 0), ("few", FEW, 0, 1), ("few", FEW, 0, 0), ("few", FEW, 2, 0), ("three", THREE, 1, 0),
+        ("three", THREE, 1, 2), ("three", THREE, 2, 1), ("three", THREE, 0, 1), ("three", THREE, 2, 3), ("sizes", SIZES, 0, 1),
+        ("sizes", SIZES, 2, 0), ("sizes", SIZES, 1, 3), ("empty", EMPTY, 2, 0), ("most", MOST, 63, 0), ("most", MOST, 62, 63),
+        ("most", MOST, 64, 0), ("most", MOST, 64, 63))
 
 
 def unequal_writing(c, sets):
@@ -512,6 +533,8 @@ def unequal_writing(c, sets):
     for table, what, needed in (("copies", LEND_COPIES, 6), ("counts", LEND_COUNTS, 2), ("space", LEND_SPACE, len(UNEQUAL))):
         for size in (0, needed - 1, needed, needed + 1):
             c.add("unequal_lent_%s_%d" % (table, size), UNEQUAL, what=what, value=size)
+    for name, text, place, value in LIKE:
+        c.add("%s_disk_%d_like_%d" % (name, place + 1, value + 1), text, what=SET_LIKE, place=place, value=value)
     text = largest_unequal()
     c.add("largest_unequal", text)
     for size in (44564, 44565):
@@ -529,7 +552,7 @@ def writing_file():
     c.add("case_a", CASE_A)
     c.add("small", SMALL)
     c.add("empty", EMPTY)
-    c.add("mixed", MIXED)
+    c.add("varied", VARIED)
     sets("small", SMALL, SET_DISKS, "disks", 0, (0, 1, 2, 64, 65) + big)
     sets("small", SMALL, SET_SLOTS, "slots", 0, (0, 1, 2, 3, 32, 33) + big)
     sets("small", SMALL, SET_STREAMS, "streams", 0, (0, 1, 3, 4, 65535, 65536, 2 ** 32 - 1))
@@ -585,5 +608,6 @@ if __name__ == "__main__":
     limits_file()
     long_file()
     lending_file()
+    unequal_file()
     racks_file()
     writing_file()

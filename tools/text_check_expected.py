@@ -253,6 +253,9 @@ def writing(name):
             set_place(tables, what, place, value)
         if what in (6, 10):
             disks = value
+        if what == 16:
+            tables[0][place] = tables[0][value]
+            disks = max(disks, place + 1)
         if what == 9:
             left = value
         space = value if what == 14 else SPACE
@@ -269,7 +272,7 @@ def main():
     if "--untouched" in sys.argv:
         print(table_digest(None), fold(0, bytes([UNUSED_BYTE]) * SPACE))
         return
-    for name in ("lines", "limits", "long", "lending", "racks"):
+    for name in ("lines", "limits", "long", "lending", "unequal", "racks"):
         print("reading " + name)
         reading(name)
     print("writing")

@@ -1,13 +1,15 @@
-// The cases: racks and lists of ten families, and faults for those that are to be refused.
+// The cases: racks of equal and of unequal disks and lists of ten families, and faults for those that are to be refused.
 use crate::draw::draw;
 use crate::draw::from_to;
 
-// A case: its rack, how many records it has, of which demands, how many bytes behind them, and which table is lent too short.
+// A case: how many disks, their slots and load, and up to how many times as large a disk can be; how many records, of which
+// demands, how many bytes behind them, and which table is lent too short.
 pub(crate) struct Case {
     pub(crate) number: u64,
     pub(crate) disks: u32,
     pub(crate) slots: u32,
     pub(crate) load: u32,
+    pub(crate) sizes: u32,
     pub(crate) records: u32,
     pub(crate) low: u32,
     pub(crate) high: u32,
@@ -30,6 +32,7 @@ fn plain(
         disks: from_to(number, 0, 1, most_disks),
         slots: from_to(number, 1, 1, most_slots),
         load: from_to(number, 2, 1, most_load),
+        sizes: 1,
         records: from_to(number, 3, 0, most_records),
         low,
         high,
@@ -73,6 +76,14 @@ fn largest(mut c: Case) -> Case {
     c
 }
 
+// Up to 64 disks in one of two cases, but not in family 0.
+fn crowded(mut c: Case) -> Case {
+    if (c.number % 10 != 0) & (draw(c.number, 19, 2) == 0) {
+        c.disks = from_to(c.number, 0, 5, 64);
+    }
+    c
+}
+
 // A case of the family that its number's last digit names.
 fn of_family(number: u64) -> Case {
     match number % 10 {
@@ -83,8 +94,38 @@ fn of_family(number: u64) -> Case {
         5 => many(plain(number, 16, 12, 200, 129, 0, 99)),
         6 => plain(number, 8, 4, 1, 12, 0, 4),
         7 => largest(plain(number, 64, 32, 65_535, 40, 0, 1_000_000)),
-        _ => plain(number, 4, 4, 12, 8, 0, 9),
+        _ => crowded(plain(number, 4, 4, 12, 8, 0, 9)),
     }
+}
+
+// How many times a number fits in a limit, or 0 for 0.
+fn fits(n: u32, limit: u32) -> u32 {
+    if n == 0 { 0 } else { limit / n }
+}
+
+// Smaller slots and load for the largest racks, so that their disks can differ.
+fn smaller(mut c: Case) -> Case {
+    if c.number % 10 == 7 {
+        c.slots = from_to(c.number, 1, 1, 16);
+        c.load = from_to(c.number, 2, 1, 16_383);
+    }
+    c
+}
+
+// Three of four cases have disks of unequal sizes, as far as the ranges of slots and load go.
+fn unequal(c: Case) -> Case {
+    if draw(c.number, 17, 4) == 0 {
+        return c;
+    }
+    let mut u = smaller(c);
+    let room = lesser(fits(u.slots, 32), fits(u.load, 65_535));
+    u.sizes = lesser(from_to(c.number, 18, 2, 8), room);
+    u
+}
+
+// The lesser of two numbers.
+fn lesser(a: u32, b: u32) -> u32 {
+    if a < b { a } else { b }
 }
 
 // How many times the demands and the load of a case are doubled.
@@ -101,33 +142,33 @@ pub(crate) fn folds(number: u64) -> u32 {
     if number % 10 == 2 { 3 } else { 1 }
 }
 
-// The first fault of a case of families 8 and 9, or 15 for none.
+// How many faults there are, which is also the number of none.
+pub(crate) const FAULTS: u32 = 20;
+
+// The first fault of a case of families 8 and 9, or none.
 pub(crate) fn first_fault(number: u64) -> u32 {
     if number % 10 < 8 {
-        15
+        FAULTS
     } else {
-        draw(number, 6, 15)
+        draw(number, 6, FAULTS)
     }
 }
 
-// The second fault of a case of family 9, or 15 for none.
+// The second fault of a case of family 9, or none.
 pub(crate) fn second_fault(number: u64) -> u32 {
     if number % 10 < 9 {
-        15
+        FAULTS
     } else {
-        draw(number, 7, 15)
+        draw(number, 7, FAULTS)
     }
 }
 
-// The case with a fault of the rack, of the list's length or of the tables; 10 to 14 are faults of a record.
+// The case with a fault of the number of disks, of the list's length or of the tables; 2 to 5 and 15 to 19 are faults of a disk,
+// 10 to 14 of a record.
 fn with_fault(mut c: Case, fault: u32) -> Case {
     match fault {
         0 => c.disks = 0,
         1 => c.disks = 65,
-        2 => c.slots = 0,
-        3 => c.slots = 33,
-        4 => c.load = 0,
-        5 => c.load = 65_536,
         6 => c.odd_bytes = from_to(c.number, 9, 1, 7),
         7 => c.records = from_to(c.number, 10, 1_025, 1_029),
         8 | 9 => c.short = from_to(c.number, 11, 1, 3),
@@ -139,7 +180,7 @@ fn with_fault(mut c: Case, fault: u32) -> Case {
 // The case of a number.
 pub(crate) fn case_of(number: u64) -> Case {
     with_fault(
-        with_fault(of_family(number), first_fault(number)),
+        with_fault(unequal(of_family(number)), first_fault(number)),
         second_fault(number),
     )
 }

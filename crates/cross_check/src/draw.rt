@@ -18,7 +18,7 @@ pub(crate) fn draw(case: u64, place: u64, most: u32) -> u32 {
 }
 
 // A number of 64 bits in 32, or 0 where it does not fit.
-fn narrow(n: u64) -> u32 {
+pub(crate) fn narrow(n: u64) -> u32 {
     if n <= 4_294_967_295 { n as u32 } else { 0 }
 }
 

@@ -4,37 +4,29 @@ use crate::case::Case;
 use crate::draw::draw;
 use crate::plain::Call;
 use crate::plain::Outcome;
+use crate::plain::memory::minus;
+use crate::plain::memory::plus;
+use crate::plain::ranks::Term;
+use crate::plain::ranks::total;
 use crate::plain::refused;
-use placement::Rack;
-use placement::Slots;
-use placement::Streams;
 use planner::Answer;
 
-// How many copy places a rack has, by repeated sums.
-fn copy_places(disks: u32, slots: u32) -> u32 {
-    let mut places = 0;
-    for _ in 0..disks {
-        places = std::num::wrapping_add_u32(places, slots);
-    }
-    places
-}
-
 // How many places of a table the case needs: copies, counts, left films.
-fn needed(c: Case, table: u32) -> u32 {
+fn needed(c: Case, rack: &[u64], table: u32) -> usize {
     match table {
-        1 => copy_places(c.disks, c.slots),
-        2 => c.disks,
-        _ => c.records,
+        1 => total(rack, 0, rack.len(), Term::Film) as usize,
+        2 => rack.len(),
+        _ => c.records as usize,
     }
 }
 
 // How many places of a table are lent: one fewer if that is the fault of the case, or up to two more.
-fn lent(c: Case, table: u32) -> usize {
-    let n = needed(c, table);
-    if c.short != table {
-        return std::num::wrapping_add_u32(n, draw(c.number, 20 + (table as u64), 3)) as usize;
+fn lent(c: Case, rack: &[u64], table: u32) -> usize {
+    let n = needed(c, rack, table);
+    if c.short == table {
+        return minus(n, 1);
     }
-    if n > 0 { (n - 1) as usize } else { 0 }
+    plus(n, draw(c.number, 20 + (table as u64), 3) as usize)
 }
 
 // The smaller of two numbers.
@@ -45,14 +37,11 @@ pub(crate) fn least(a: usize, b: usize) -> usize
 }
 
 // What the case asks of a planner.
-pub(crate) fn call_of(c: Case) -> Call {
+pub(crate) fn call_of(c: Case, rack: &[u64]) -> Call {
     Call {
-        disks: c.disks,
-        slots: c.slots,
-        load: c.load,
-        copies: lent(c, 1),
-        counts: lent(c, 2),
-        left: lent(c, 3),
+        copies: lent(c, rack, 1),
+        counts: lent(c, rack, 2),
+        left: lent(c, rack, 3),
     }
 }
 
@@ -74,25 +63,10 @@ fn outcome_of(a: Answer) -> Outcome {
     }
 }
 
-// What the proved planner answers.
-fn answer(
-    k: Call,
-    list: &[u8],
-    copies: &mut [u64],
-    counts: &mut [u32],
-    left: &mut [u64],
-) -> Outcome {
-    let rack = Rack {
-        disks: k.disks,
-        slots: Slots(k.slots),
-        streams: Streams(k.load),
-    };
-    outcome_of(planner::plan(rack, list, copies, counts, left))
-}
-
 // What the proved planner answers on the lent parts of the tables.
 pub(crate) fn proved_plan(
     k: Call,
+    rack: &[u64],
     list: &[u8],
     copies: &mut [u64],
     counts: &mut [u32],
@@ -101,11 +75,11 @@ pub(crate) fn proved_plan(
     let p = least(k.copies, copies.len());
     let n = least(k.counts, counts.len());
     let l = least(k.left, left.len());
-    answer(
-        k,
+    outcome_of(planner::plan(
+        rack,
         list,
         &mut copies[0..p],
         &mut counts[0..n],
         &mut left[0..l],
-    )
+    ))
 }

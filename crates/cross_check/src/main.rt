@@ -1,12 +1,13 @@
 // Runs the proved planner and the plain planner on many racks and lists, compares every place of every table and every number
-// of the answers, and prints how many cases ran, how many were refused, what was served and left in all, how many copies and left
-// films that makes, and how many cases differ.
+// of the answers, and prints how many cases ran, how many were refused, how many were planned for unequal disks, what was served
+// and left in all, how many copies and left films that makes, and how many cases differ.
 mod bytes;
 mod case;
 mod compare;
 mod draw;
 mod lend;
 mod plain;
+mod rack;
 
 use case::case_of;
 use compare::Compared;
@@ -16,11 +17,12 @@ use libc::STDOUT_FILENO;
 // How many cases are run.
 const CASES: u64 = 25_000;
 
-// How many cases ran, how many were refused, what was served and left in all, how many copies stand on all disks, how many films
-// are left, and how many cases differ.
+// How many cases ran, how many were refused, how many were planned for unequal disks, what was served and left in all, how many
+// copies stand on all disks, how many films are left, and how many cases differ.
 struct Tally {
     cases: u64,
     refused: u64,
+    mixed: u64,
     served: u64,
     unserved: u64,
     copies: u64,
@@ -43,6 +45,7 @@ fn counted(t: Tally, c: Compared) -> Tally {
     Tally {
         cases: one_more(t.cases, true),
         refused: one_more(t.refused, plain.refusal != 0),
+        mixed: one_more(t.mixed, c.mixed),
         served: std::num::wrapping_add_u64(t.served, plain.served),
         unserved: std::num::wrapping_add_u64(t.unserved, plain.unserved),
         copies: std::num::wrapping_add_u64(t.copies, c.copies),
@@ -56,6 +59,7 @@ fn run_cases(cases: u64) -> Tally {
     let mut t = Tally {
         cases: 0,
         refused: 0,
+        mixed: 0,
         served: 0,
         unserved: 0,
         copies: 0,
@@ -80,6 +84,7 @@ fn main() {
     let t = run_cases(CASES);
     print_line(b"cases ", t.cases);
     print_line(b"refused ", t.refused);
+    print_line(b"mixed ", t.mixed);
     print_line(b"served ", t.served);
     print_line(b"left ", t.unserved);
     print_line(b"copies ", t.copies);

@@ -1,16 +1,18 @@
-// A plain planner, written from the words of document 01 and of 02's request P1 alone, that the proved planner is compared with.
-// Its records stay in the order of the file. Each disk looks for the order of its list anew, each film of demand 0 for its slot,
-// and each sum is made anew. All that it holds stands in one memory of numbers: the records, the list of a disk, and the three
-// tables. A record, a copy or a left film is an entry: the film, and from bit 32 on its demand, viewers or amount. Where a record's
-// film is on the disks, and nothing of it is left, its place is 0.
+// A plain planner, written from the words of document 01 and of 02's requests P1 and P2 alone, that the proved planner is
+// compared with. Its records stay in the order of the file. For each number of slots it goes through all disks and fills those
+// that have as many. Each disk looks for the order of its list anew, each film of demand 0 for its slot, and each sum is made
+// anew. All that it holds stands in one memory of numbers: the records, the list of a disk, and the three tables. A record, a copy
+// or a left film is an entry: the film, and from bit 32 on its demand, viewers or amount. A disk too: its slots, and its load.
+// Where a record's film is on the disks, and nothing of it is left, its place is 0.
 mod disk;
 pub(crate) mod memory;
-mod ranks;
+pub(crate) mod ranks;
 mod records;
 mod refusals;
 mod shelf;
 
 use disk::fill_disks;
+use disk::first_place;
 use memory::COPIES;
 use memory::COUNTS;
 use memory::LEFT;
@@ -22,11 +24,8 @@ use records::read_records;
 use refusals::call_refusal;
 use shelf::shelve_films;
 
-// What is asked: the rack, and how many places of each table are lent.
+// How many places of each table are lent.
 pub(crate) struct Call {
-    pub(crate) disks: u32,
-    pub(crate) slots: u32,
-    pub(crate) load: u32,
     pub(crate) copies: usize,
     pub(crate) counts: usize,
     pub(crate) left: usize,
@@ -52,25 +51,31 @@ pub(crate) fn refused(refusal: u32, second: u64) -> Outcome {
     }
 }
 
-// Plans the list, or refuses it.
-pub(crate) fn plan(c: Call, list: &[u8], m: &mut [u64]) -> Outcome {
-    let number = call_refusal(c, list.len());
-    if number > 0 {
-        return refused(number, 0);
+// Plans the list for the disks, or refuses it.
+pub(crate) fn plan(c: Call, rack: &[u64], list: &[u8], m: &mut [u64]) -> Outcome {
+    let fault = call_refusal(c, rack, list.len());
+    if fault.refusal > 0 {
+        return fault;
     }
+    plan_list(rack, list, m)
+}
+
+// Plans the list, or refuses a record of it.
+fn plan_list(rack: &[u64], list: &[u8], m: &mut [u64]) -> Outcome {
     let n = list.len() / 8;
     let fault = read_records(list, n, m);
     if fault.refusal > 0 {
         return fault;
     }
-    planned(c, n, m)
+    planned(rack, n, m)
 }
 
 // Plans n records that are not refused.
-fn planned(c: Call, n: usize, m: &mut [u64]) -> Outcome {
-    let end = fill_disks(c, n, m);
-    shelve_films(c, n, m);
+fn planned(rack: &[u64], n: usize, m: &mut [u64]) -> Outcome {
+    fill_disks(rack, n, m);
+    shelve_films(rack, n, m);
     put_in_order(m, n, true, LEFT);
+    let end = first_place(rack, rack.len());
     Outcome {
         refusal: 0,
         second: 0,
@@ -80,10 +85,10 @@ fn planned(c: Call, n: usize, m: &mut [u64]) -> Outcome {
     }
 }
 
-// How many copies the plan of a call has on all disks, or 0 if the call was refused.
-pub(crate) fn copies_of(c: Call, o: Outcome, m: &[u64]) -> u64 {
+// How many copies a plan has on all disks, or 0 if it was refused.
+pub(crate) fn copies_of(rack: &[u64], o: Outcome, m: &[u64]) -> u64 {
     if o.refusal > 0 {
         return 0;
     }
-    total(m, COUNTS, plus(COUNTS, c.disks as usize), Term::Film)
+    total(m, COUNTS, plus(COUNTS, rack.len()), Term::Film)
 }

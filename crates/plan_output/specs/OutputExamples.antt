@@ -22,11 +22,11 @@ printings =
     ∷ printing (inputOf 1 1 5 (caseI .asked .list)) (textLines ("(refused 6 2)" ∷ []))
     ∷ printing (inputOf 1 2 5 []) (textLines ("(rack 1 2 5)" ∷ "(disk 1)" ∷ "(left)" ∷ "(served 0 0)" ∷ []))
     ∷ printing (inputOf 1 33 5 []) (textLines ("(refused 1)" ∷ []))
-    ∷ printing (inputOf 65 2 5 (7 ∷ [])) (textLines ("(refused 1)" ∷ []))
-    ∷ printing (inputOf 1 2 0 []) (textLines ("(refused 1)" ∷ []))
     ∷ printing (inputOf 1 2 5 (7 ∷ [])) (textLines ("(refused 2)" ∷ []))
     ∷ printing (replicate 11 0) (textLines ("(refused 2)" ∷ []))
     ∷ printing (replicate 12 0) (textLines ("(refused 1)" ∷ []))
     ∷ printing (inputOf 1 4 9 (caseG .asked .list))
     (textLines ("(rack 1 4 9)" ∷ "(disk 1 (1 2) (2 3) (4 0))" ∷ "(left)" ∷ "(served 5 0)" ∷ []))
+    ∷ printing (inputOf 65 2 5 (7 ∷ [])) (textLines ("(refused 1)" ∷ []))
+    ∷ printing (inputOf 1 2 0 []) (textLines ("(refused 1)" ∷ []))
     ∷ []

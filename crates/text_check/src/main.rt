@@ -1,5 +1,5 @@
 // Runs texts through reading and writing, and prints what happened: lines damaged in every way that 01 names, numbers at and
-// beyond each limit, long texts, tables too short, and calls of writing.
+// beyond each limit, long texts, tables too short, racks of unequal disks, and calls of writing.
 mod bytes;
 mod case;
 mod lend;
@@ -68,6 +68,8 @@ fn main() {
     run_reading(b"limits");
     run_reading(b"long");
     run_reading(b"lending");
+    run_reading(b"unequal");
+    run_reading(b"racks");
     io::write_all(STDOUT_FILENO, b"writing\n");
     run_file(b"writing", true);
 }

@@ -1,7 +1,6 @@
 // Answers of reading and writing in 01's numbers, written to standard output.
 use crate::lend::Answer;
 use libc::STDOUT_FILENO;
-use placement::Rack;
 use reader::PlanRead;
 use reader::ReadAnswer;
 use refusal::Refusal;
@@ -22,19 +21,10 @@ fn print_refusal(r: Refusal) {
     }
 }
 
-// Writes a rack.
-fn print_rack(rack: Rack) {
-    let slots = rack.slots;
-    let streams = rack.streams;
-    print_next(rack.disks as u64);
-    print_next(slots.0 as u64);
-    print_next(streams.0 as u64);
-}
-
 // Writes a plan's numbers.
 fn print_plan(p: PlanRead) {
     io::write_all(STDOUT_FILENO, b"plan");
-    print_rack(p.rack);
+    print_next(p.disks as u64);
     print_next(p.served);
     print_next(p.unserved);
     print_next(p.left as u64);

@@ -23,7 +23,7 @@ use crate::tables::tables_digest;
 use crate::writing::write_to_space;
 use libc::STDOUT_FILENO;
 
-// Writes both answers on a text and what the tables hold.
+// Writes both answers on a text and what the rack and the tables hold.
 fn print_answers(read: Answer, text: &[u8], digest: u64) {
     io::write_all(STDOUT_FILENO, b": read ");
     print_answer(read);
@@ -37,6 +37,7 @@ fn print_answers(read: Answer, text: &[u8], digest: u64) {
 fn print_rewritten(
     task: Task,
     digest: u64,
+    rack: &mut [u64; DISKS],
     copies: &mut [u64; COPIES],
     counts: &mut [u32; DISKS],
     left: &mut [u64; LEFT],
@@ -44,7 +45,7 @@ fn print_rewritten(
     let Task::Write(_) = task else {
         return;
     };
-    let s = write_to_space(whole(), task, copies, counts, left);
+    let s = write_to_space(whole(), task, rack, copies, counts, left);
     if s.digest == digest {
         io::write_all(STDOUT_FILENO, b", written the same");
     } else {
@@ -52,14 +53,30 @@ fn print_rewritten(
     }
 }
 
-// Reads a text into tables that are filled alike, and says what happened.
+// Reads a text into a rack and tables that are filled alike, and says what happened.
 fn read_text(l: Lent, text: &mut [u8], digest: u64) {
+    let mut rack = [UNUSED_ENTRY; DISKS];
     let mut copies = [UNUSED_ENTRY; COPIES];
     let mut counts = [UNUSED; DISKS];
     let mut left = [UNUSED_ENTRY; LEFT];
-    let a = lend(l, Task::Read, text, &mut copies, &mut counts, &mut left);
-    print_answers(a, text, tables_digest(&copies, &counts, &left));
-    print_rewritten(task_after(a), digest, &mut copies, &mut counts, &mut left);
+    let a = lend(
+        l,
+        Task::Read,
+        text,
+        &mut rack,
+        &mut copies,
+        &mut counts,
+        &mut left,
+    );
+    print_answers(a, text, tables_digest(&rack, &copies, &counts, &left));
+    print_rewritten(
+        task_after(a),
+        digest,
+        &mut rack,
+        &mut copies,
+        &mut counts,
+        &mut left,
+    );
 }
 
 // Runs a case of reading on its text.

@@ -1,7 +1,8 @@
-// The tables and the space that a case lends, and their digest.
+// The rack, the tables and the space that a case lends, and their digest.
 use crate::bytes::mixed;
 
-// The places of each table and of the space for text: more than the largest plan needs.
+// The places of the copy table, of the rack and the count table, of the left table and of the space for text: more than the largest
+// plan needs.
 pub(crate) const COPIES: usize = 2_056;
 
 pub(crate) const DISKS: usize = 72;
@@ -17,8 +18,8 @@ pub(crate) const UNUSED_ENTRY: u64 = 12_884_901_891_000_000_000;
 
 pub(crate) const UNUSED_BYTE: u8 = 238;
 
-// The digests of tables and of a space that hold this in every place.
-pub(crate) const UNTOUCHED_TABLES: u64 = 9_643_409_775_087_910_912;
+// The digests of a rack and tables, and of a space, that hold this in every place.
+pub(crate) const UNTOUCHED_TABLES: u64 = 6_987_961_416_249_245_696;
 
 pub(crate) const UNTOUCHED_SPACE: u64 = 2_270_514_100_495_366_144;
 
@@ -38,7 +39,7 @@ pub(crate) fn wide(n: u32) -> u64 {
 }
 
 // The number at place i of the three tables, one behind the other.
-fn number_at(copies: &[u64], counts: &[u32], left: &[u64], i: usize) -> u64 {
+fn table_number(copies: &[u64], counts: &[u32], left: &[u64], i: usize) -> u64 {
     if i < COPIES {
         return entry_at(copies, i);
     }
@@ -49,11 +50,19 @@ fn number_at(copies: &[u64], counts: &[u32], left: &[u64], i: usize) -> u64 {
     entry_at(left, behind - DISKS)
 }
 
-// A digest of every place of every table.
-pub(crate) fn tables_digest(copies: &[u64], counts: &[u32], left: &[u64]) -> u64 {
+// The number at place i of the rack and the tables behind it.
+fn number_at(rack: &[u64], copies: &[u64], counts: &[u32], left: &[u64], i: usize) -> u64 {
+    if i < DISKS {
+        return entry_at(rack, i);
+    }
+    table_number(copies, counts, left, i - DISKS)
+}
+
+// A digest of every place of the rack and of every table.
+pub(crate) fn tables_digest(rack: &[u64], copies: &[u64], counts: &[u32], left: &[u64]) -> u64 {
     let mut d = 0;
-    for i in 0..COPIES + DISKS + LEFT {
-        d = mixed(d, number_at(copies, counts, left, i));
+    for i in 0..DISKS + COPIES + DISKS + LEFT {
+        d = mixed(d, number_at(rack, copies, counts, left, i));
     }
     d
 }

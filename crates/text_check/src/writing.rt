@@ -1,4 +1,5 @@
-// The cases of writing: tables that were read from a text, with one place or number set, and a line that says what writing gave.
+// The cases of writing: a rack and tables that were read from a text, with one place or number set, and a line that says what
+// writing gave.
 use crate::bytes::bytes_digest;
 use crate::bytes::least;
 use crate::bytes::narrow;
@@ -24,11 +25,9 @@ use crate::tables::UNTOUCHED_SPACE;
 use crate::tables::UNUSED;
 use crate::tables::UNUSED_BYTE;
 use crate::tables::UNUSED_ENTRY;
+use crate::tables::entry_at;
 use crate::tables::wide;
 use libc::STDOUT_FILENO;
-use placement::Rack;
-use placement::Slots;
-use placement::Streams;
 use reader::PlanRead;
 
 // What a case sets.
@@ -48,19 +47,21 @@ pub(crate) struct Space {
 pub(crate) fn write_to_space(
     l: Lent,
     task: Task,
+    rack: &mut [u64; DISKS],
     copies: &mut [u64; COPIES],
     counts: &mut [u32; DISKS],
     left: &mut [u64; LEFT],
 ) -> Space {
     let mut space = [UNUSED_BYTE; SPACE];
-    let answer = lend(l, task, &mut space, copies, counts, left);
+    let answer = lend(l, task, &mut space, rack, copies, counts, left);
     Space {
         answer,
         digest: bytes_digest(&space),
     }
 }
 
-// An entry with what the case sets in it: `film` is the case's number for its film, `number` that for its viewers or amount.
+// An entry with what the case sets in it: `film` is the case's number for its film or a disk's slots, `number` that for its
+// viewers, its amount or a disk's streams.
 fn with_change(h: Change, film: u64, number: u64, entry: u64) -> u64 {
     if h.what == film {
         return (entry >> 32 << 32) | wide(narrow(h.value));
@@ -71,7 +72,7 @@ fn with_change(h: Change, film: u64, number: u64, entry: u64) -> u64 {
     entry
 }
 
-// Sets what the case sets in a table of entries.
+// Sets what the case sets in the rack or in a table of entries.
 fn set_entry(h: Change, film: u64, number: u64, s: &mut [u64]) {
     let i = h.place;
     if i < s.len() {
@@ -89,23 +90,39 @@ fn set_count(h: Change, s: &mut [u32]) {
     }
 }
 
+// What is done in a case that makes a disk like another.
+const SET_LIKE: u64 = 16;
+
+// Makes a disk like another, if the case does that.
+fn set_like(h: Change, rack: &mut [u64]) {
+    let i = h.place;
+    if h.what == SET_LIKE {
+        if i < rack.len() {
+            let like = entry_at(rack, h.value as usize);
+            rack[i] = like;
+        }
+    }
+}
+
 // A number that is stated: the one read, or the one that the case sets.
 fn stated(h: Change, what: u64, n: u32) -> u32 {
     if h.what == what { narrow(h.value) } else { n }
 }
 
-// The rack and the number of left films that are stated.
+// So many disks, or as many as there must be for one that is made like another.
+fn with_like(h: Change, disks: u32) -> u32 {
+    let end = std::num::wrapping_add_u32(narrow(h.place as u64), 1);
+    if (h.what == SET_LIKE) & (disks < end) {
+        end
+    } else {
+        disks
+    }
+}
+
+// The numbers of disks and of left films that are stated.
 fn stated_plan(h: Change, p: PlanRead) -> PlanRead {
-    let read = p.rack;
-    let slots = read.slots;
-    let streams = read.streams;
-    let rack = Rack {
-        disks: stated(h, 6, read.disks),
-        slots: Slots(stated(h, 7, slots.0)),
-        streams: Streams(stated(h, 8, streams.0)),
-    };
     PlanRead {
-        rack,
+        disks: stated(h, 6, with_like(h, p.disks)),
         served: p.served,
         unserved: p.unserved,
         left: stated(h, 9, p.left),
@@ -120,23 +137,27 @@ fn changed(h: Change, task: Task) -> Task {
     }
 }
 
-// Sets what the case sets, writes the tables, and says what writing gave.
+// Sets what the case sets, writes the rack and the tables, and says what writing gave.
 fn write_changed(
     h: Change,
     l: Lent,
     task: Task,
+    rack: &mut [u64; DISKS],
     copies: &mut [u64; COPIES],
     counts: &mut [u32; DISKS],
     left: &mut [u64; LEFT],
 ) {
+    set_entry(h, 7, 8, rack);
+    set_like(h, rack);
     set_entry(h, 1, 2, copies);
     set_count(h, counts);
     set_entry(h, 4, 5, left);
-    print_space(write_to_space(l, changed(h, task), copies, counts, left));
+    print_space(write_to_space(l, changed(h, task), rack, copies, counts, left));
 }
 
-// Reads a text into tables, and writes them with what the case sets, on the parts that it lends.
+// Reads a text into a rack and tables, and writes them with what the case sets, on the parts that it lends.
 fn read_and_write(h: Change, l: Lent, text: &mut [u8]) {
+    let mut rack = [UNUSED_ENTRY; DISKS];
     let mut copies = [UNUSED_ENTRY; COPIES];
     let mut counts = [UNUSED; DISKS];
     let mut left = [UNUSED_ENTRY; LEFT];
@@ -144,11 +165,20 @@ fn read_and_write(h: Change, l: Lent, text: &mut [u8]) {
         whole(),
         Task::Read,
         text,
+        &mut rack,
         &mut copies,
         &mut counts,
         &mut left,
     );
-    write_changed(h, l, task_after(read), &mut copies, &mut counts, &mut left);
+    write_changed(
+        h,
+        l,
+        task_after(read),
+        &mut rack,
+        &mut copies,
+        &mut counts,
+        &mut left,
+    );
 }
 
 // Writes what writing gave.

@@ -1,5 +1,4 @@
-// Filling the disks one after the other.
-use crate::plain::Call;
+// Filling the disks one after the other, the small ones first.
 use crate::plain::memory::COPIES;
 use crate::plain::memory::COUNTS;
 use crate::plain::memory::LIST;
@@ -94,19 +93,37 @@ fn fill_disk(d: Disk, m: &mut [u64]) -> usize {
     width
 }
 
-// Fills the disks in order, and answers where their copy places end.
-pub(crate) fn fill_disks(c: Call, n: usize, m: &mut [u64]) -> usize {
-    let disks = c.disks as usize;
-    let mut d = Disk {
-        place: COPIES,
-        slots: c.slots as usize,
-        load: c.load as u64,
+// The first copy place of disk i, counted from 0: after the slots of all disks before it.
+pub(crate) fn first_place(rack: &[u64], i: usize) -> usize {
+    plus(COPIES, total(rack, 0, i, Term::Film) as usize)
+}
+
+// Fills disk i if it has so many slots, and writes down how many copies it has.
+fn fill_if_of(rack: &[u64], n: usize, slots: usize, i: usize, m: &mut [u64]) {
+    let disk = at(rack, i);
+    if film_of(disk) as usize != slots {
+        return;
+    }
+    let d = Disk {
+        place: first_place(rack, i),
+        slots,
+        load: number_of(disk),
         records: n,
     };
-    for i in 0..disks {
-        let width = fill_disk(d, m);
-        put(m, plus(COUNTS, i), width as u64);
-        d.place = plus(d.place, d.slots);
+    let width = fill_disk(d, m);
+    put(m, plus(COUNTS, i), width as u64);
+}
+
+// Fills the disks that have so many slots, by number.
+fn fill_disks_of(rack: &[u64], n: usize, slots: usize, m: &mut [u64]) {
+    for i in 0..rack.len() {
+        fill_if_of(rack, n, slots, i, m);
     }
-    d.place
+}
+
+// Fills the disks by ascending slots.
+pub(crate) fn fill_disks(rack: &[u64], n: usize, m: &mut [u64]) {
+    for slots in 1..33 {
+        fill_disks_of(rack, n, slots, m);
+    }
 }

@@ -33,12 +33,21 @@ pub(crate) fn minus(a: usize, b: usize) -> usize {
     if b <= a { a - b } else { 0 }
 }
 
-// The film of an entry.
+// n so many times, by repeated sums.
+pub(crate) fn times(n: u64, so_many: u64) -> u64 {
+    let mut t = 0;
+    for _ in 0..so_many {
+        t = std::num::wrapping_add_u64(t, n);
+    }
+    t
+}
+
+// The film of an entry, or the slots of a disk.
 pub(crate) fn film_of(entry: u64) -> u64 {
     entry & 4_294_967_295
 }
 
-// The demand, the viewers or the amount of an entry.
+// The demand, the viewers or the amount of an entry, or the load of a disk.
 pub(crate) fn number_of(entry: u64) -> u64 {
     entry >> 32
 }

@@ -5,10 +5,10 @@ use Rattle.text_check.proofs.tables.tables_digest.Statement.{statement}
 use Rattle.text_check.proofs.tables.tables_digest.Tie as tie
 
 abbrev Inv-loop : tie.InvT-loop
-Inv-loop copies counts left d₀ i₀ d i = i ≤ 3160
+Inv-loop rack copies counts left d₀ i₀ d i = i ≤ 3232
 
 abbrev μ-loop : tie.MeasureT-loop
-μ-loop copies counts left d₀ i₀ d i = 3160 - i
+μ-loop rack copies counts left d₀ i₀ d i = 3232 - i
 
 pub tables-digest-spec : {M : Type 1} → statement M
 tables-digest-spec =

@@ -7,12 +7,12 @@ use Rattle.cross_check.proofs.plain.disk.fill_disks.Statement.{statemen
 use Rattle.cross_check.proofs.plain.disk.fill_disks.Tie as tie
 
 abbrev Inv-loop : tie.InvT-loop
-Inv-loop n m₀ disks d₀ i₀ m d i = (i ≤ disks) × (length m ≡ length m₀)
+Inv-loop rack n m₀ slots₀ m slots = (slots ≤ 33) × (length m ≡ length m₀)
 
 abbrev μ-loop : tie.MeasureT-loop
-μ-loop n m₀ disks d₀ i₀ m d i = disks - i
+μ-loop rack n m₀ slots₀ m slots = 33 - slots
 
 pub fill-disks-spec : {M : Type 1} → statement M
 fill-disks-spec =
     tie.close
-    (tie.spec Inv-loop μ-loop (λ c. search needs) (λ c. search needs) (λ c. search needs) (λ c. search needs) (λ c κs. search needs) (λ c κs. search needs) (λ c κs. search needs) (λ c κs. search needs) (λ c. search needs) (λ c. search needs) (λ c. search needs) (λ c. search needs) (λ c. search needs))
+    (tie.spec Inv-loop μ-loop (λ c. search needs) (λ c κs. search needs) (λ c. search needs) (λ c. search needs) (λ c. search needs) (λ c. search needs) (λ c. search needs))

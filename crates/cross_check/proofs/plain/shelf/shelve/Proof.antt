@@ -7,12 +7,12 @@ use Rattle.cross_check.proofs.plain.shelf.shelve.Statement.{statement}
 use Rattle.cross_check.proofs.plain.shelf.shelve.Tie as tie
 
 abbrev Inv-loop : tie.InvT-loop
-Inv-loop n m₀ entry disks slots place₀ i₀ m place i = (i ≤ disks) × (length m ≡ length m₀)
+Inv-loop rack n m₀ entry place₀ i₀ i-end m place i = (i ≤ i-end) × (length m ≡ length m₀)
 
 abbrev μ-loop : tie.MeasureT-loop
-μ-loop n m₀ entry disks slots place₀ i₀ m place i = disks - i
+μ-loop rack n m₀ entry place₀ i₀ i-end m place i = i-end - i
 
 pub shelve-spec : {M : Type 1} → statement M
 shelve-spec =
     tie.close
-    (tie.spec Inv-loop μ-loop (λ c κs. search needs) (λ c. search needs) (λ c. search needs) (λ c. search needs) (λ c. search needs) (λ c κs. search needs) (λ c κs. search needs) (λ c κs. search needs) (λ c κs. search needs) (λ c. search needs) (λ c κs. search needs) (λ c. search needs) (λ c. search needs) (λ c κs. search needs) (λ c. search needs) (λ c. search needs) (λ c. search needs) (λ c. search needs) (λ c. search needs))
+    (tie.spec Inv-loop μ-loop (λ c κs. search needs) (λ c. search needs) (λ c. search needs) (λ c κs. search needs) (λ c κs. search needs) (λ c κs. search needs) (λ c κs. search needs) (λ c κs. search needs) (λ c κs. search needs) (λ c. search needs) (λ c κs. search needs) (λ c. search needs) (λ c. search needs) (λ c κs. search needs) (λ c. search needs) (λ c. search needs) (λ c. search needs) (λ c. search needs) (λ c. search needs))

@@ -7,10 +7,10 @@ use Rattle.cross_check.proofs.plain.shelf.shelve_films.Statement.{state
 use Rattle.cross_check.proofs.plain.shelf.shelve_films.Tie as tie
 
 abbrev Inv-loop : tie.InvT-loop
-Inv-loop c n m₀ i₀ m i = (i ≤ n) × (length m ≡ length m₀)
+Inv-loop rack n m₀ i₀ m i = (i ≤ n) × (length m ≡ length m₀)
 
 abbrev μ-loop : tie.MeasureT-loop
-μ-loop c n m₀ i₀ m i = n - i
+μ-loop rack n m₀ i₀ m i = n - i
 
 pub shelve-films-spec : {M : Type 1} → statement M
 shelve-films-spec =
