@@ -22,7 +22,7 @@ pub struct DiskEntry {
     pub streams: Streams,
 }
 
-// Disks as numbers: the first `count` of `disks`.
+// Disks as numbers: the first `count` of `disks`. What they hold is all that a packed rack says; no function looks further.
 pub struct PackedDisks {
     pub count: usize,
     pub disks: [u64; 65],

@@ -1,4 +1,4 @@
--- The numbers in the structs that the C functions answer: number and second are 01's refusal, 0 where there is none.
+-- The numbers in the structs that the C functions answer: number and second are the refusal, 0 where there is none.
 use Prim.Native.Nat.{ℕ}
 use Rattle.refusal.specs.Verdict.{Numbers}
 use Rattle.placement.specs.Planning.{PlanSums, sums}

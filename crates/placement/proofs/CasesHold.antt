@@ -1,4 +1,4 @@
--- The cases of document 01, proved by computation on the definitions.
+-- The rows of the case table, proved by computation on the definitions.
 use mathlib.Core.Path.{_≡_, refl}
 use mathlib.Core.List.{[], _∷_, map}
 use Rattle.placement.specs.Items.{_∶_}

@@ -1,18 +1,19 @@
 -- A rack of equal disks is filled in the order of numbers, so that it has the plan that document 01 gives it.
 use mathlib.Core.Path.{_≡_, refl, ap, ap₂, _∙_}
-use mathlib.Core.List.{List, [], _∷_, _++_}
+use mathlib.Core.List.{List, [], _∷_, _++_, map}
 use Prim.Native.Nat.{ℕ, zero, suc}
 use native.Mathlib.Omega.{arith}
 use borrow.Author.Tests.{le-leb}
 use lib.ListN.{length}
 use Rattle.placement.specs.Items.{Item, listOf, byFilm}
 use Rattle.placement.specs.Rack.{Disk, disk, rackOf}
-use Rattle.placement.specs.Records.{recordsOf}
-use Rattle.placement.specs.Method.{placement, remaining, unserved}
+use Rattle.placement.specs.Records.{recordCount, recordsOf}
+use Rattle.placement.specs.Method.{placement, remaining, served, unserved}
 use Rattle.placement.specs.FillingOrder.{insertAt, fillingPlace, filling, byNumber, placed}
 use Rattle.placement.specs.Shelf.{shelfFilms, shelved, unshelved}
+use Rattle.placement.specs.Tables.{Tables, entryOf, padded, holding}
 use Rattle.placement.specs.Plan.{Plan}
-use Rattle.placement.specs.Planning.{call, planIn}
+use Rattle.placement.specs.Planning.{call, sums, sumsIn, planIn, holdingCall}
 use Rattle.placement.specs.EqualPlan.{equalPlan}
 use Rattle.placement.proofs.Racks.{rack-length}
 use Rattle.placement.proofs.NumberOrder.{placement-length}
@@ -60,3 +61,18 @@ module _ (k l : ℕ) where
   -- And so is U.
   pub equal-unserved : (n : ℕ) (list : List Item) → unserved (filling (rackOf n k l)) list ≡ unserved (rackOf n k l) list
   equal-unserved n list = ap (λ (ds : List Disk). unserved ds list) (equal-filling n)
+
+  -- So are the numbers of a plan, and the tables that hold it.
+  pub equal-sums :
+      (n : ℕ) (bytes : List ℕ)
+      → sumsIn (call (rackOf n k l) bytes)
+      ≡ sums (served (equalPlan n k l bytes .copies)) (unserved (rackOf n k l) (listOf (recordsOf bytes))) (length (equalPlan n k l bytes .left))
+  equal-sums n bytes =
+      ap₂ (λ (p : Plan) (u : ℕ). sums (served (p .copies)) u (length (p .left))) (equal-plan n bytes) (equal-unserved n (listOf (recordsOf bytes)))
+
+  pub equal-tables :
+      (n : ℕ) (bytes : List ℕ) (t : Tables)
+      → holdingCall (call (rackOf n k l) bytes) t
+      ≡ holding (rackOf n k l) (equalPlan n k l bytes .copies) (padded (recordCount bytes) (map entryOf (equalPlan n k l bytes .left))) t
+  equal-tables n bytes t =
+      ap (λ (p : Plan). holding (rackOf n k l) (p .copies) (padded (recordCount bytes) (map entryOf (p .left))) t) (equal-plan n bytes)

@@ -1,4 +1,4 @@
--- Cases A to I of document 01, planning's edges, shelf copies and its refusals, as one table: what is asked, and what the answer and the lent tables then are.
+-- Cases A to I of document 01, planning's edges, shelf copies, unequal disks and the refusals, as one table: what is asked, and what the answer and the lent tables then are.
 use Prim.Native.Nat.{ℕ, _+_, _*_, _/_, _%_}
 use mathlib.Core.List.{List, [], _∷_, _++_, map}
 use lib.ListN.{length, replicate}
@@ -158,7 +158,7 @@ shelves =
 
 -- Unequal disks. Disk 2 has fewer slots and is filled first. Of disks with equal slots the lower number is filled first, and the largest last.
 -- Shelf copies go by disk number, and disk 1 takes them though disk 2 was filled first and has a free slot. Two viewers are left of a rack that
--- just fits.
+-- just fits. Three sizes of disks. Shelf films of which the last finds no slot.
 abbrev pub unequal : List Row
 unequal =
     row (disk 4 8 ∷ disk 2 4 ∷ []) (1 ∶ 3 ∷ 2 ∶ 4 ∷ 3 ∶ 5 ∷ [])
@@ -169,6 +169,10 @@ unequal =
     (plans 4 0 0 (1 ∶ 0 ∷ 2 ∶ 0 ∷ none ∷ none ∷ 9 ∶ 4 ∷ none ∷ []) (2 ∷ 1 ∷ []) (replicate 3 none))
     ∷ row (disk 2 6 ∷ disk 1 3 ∷ []) (1 ∶ 2 ∷ 2 ∶ 2 ∷ 3 ∶ 5 ∷ [])
     (plans 7 2 1 (2 ∶ 2 ∷ 3 ∶ 2 ∷ 3 ∶ 3 ∷ []) (2 ∷ 1 ∷ []) (1 ∶ 2 ∷ none ∷ none ∷ []))
+    ∷ row (disk 3 3 ∷ disk 2 2 ∷ disk 1 1 ∷ disk 2 2 ∷ []) (1 ∶ 1 ∷ 2 ∶ 1 ∷ 3 ∶ 2 ∷ 4 ∶ 4 ∷ [])
+    (plans 8 0 0 (4 ∶ 3 ∷ none ∷ none ∷ 2 ∶ 1 ∷ 3 ∶ 1 ∷ 1 ∶ 1 ∷ 3 ∶ 1 ∷ 4 ∶ 1 ∷ []) (1 ∷ 2 ∷ 1 ∷ 2 ∷ []) (replicate 4 none))
+    ∷ row (disk 2 2 ∷ disk 1 1 ∷ []) (4 ∶ 0 ∷ 3 ∶ 0 ∷ 2 ∶ 0 ∷ 1 ∶ 0 ∷ [])
+    (plans 0 0 1 (1 ∶ 0 ∷ 2 ∶ 0 ∷ 3 ∶ 0 ∷ []) (2 ∷ 1 ∷ []) (4 ∶ 0 ∷ replicate 3 none))
     ∷ []
 
 -- 12: no entries, more than 64, or one outside its ranges, wherever it stands, also where a ratio or the list is at fault too.

@@ -1,4 +1,4 @@
--- Plans as values, and which of them are well formed, as document 01's "Tables" and 02's P1 have it.
+-- Plans as values, and which of them are well formed, as document 01's "Tables" and 02's P1 and P2 have it.
 use Prim.Native.Nat.{ℕ}
 use mathlib.Core.Bool.{Bool, true, false, _&&_}
 use mathlib.Core.List.{List, [], _∷_}

@@ -12,7 +12,7 @@ use Rattle.placement.specs.ShelfPromise.{ShelfPromise}
 
 -- A call, the lent tables at entry and at exit, and the numbers of the answer.
 pub record PlanPromise (call : Call) (entry exit : Tables) (answer : Numbers PlanSums) : Type 0 where
-  -- the answer is what the definition gives: a plan's numbers, or 01's refusal
+  -- the answer is what the definition gives: a plan's numbers, or a refusal
   pub numbers : answer ≡ planning call entry
   -- every place of every lent table is what the definition gives
   pub tables : exit ≡ tablesAfter call entry

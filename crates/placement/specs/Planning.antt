@@ -40,7 +40,7 @@ rackJudged rack following =
 abbrev pub roomJudged : {A : Type 0} → List Disk → ℕ → Tables → Verdict A → Verdict A
 roomJudged rack n t following = unless (roomFor rack n t) 7 0 following
 
--- 01's refusals of planning, in its order; given where none applies.
+-- The refusals of planning, in the order of 01 with 02's 12 and 13 where 1 stood; given where none applies.
 abbrev pub verdict : Call → Tables → Verdict (Unit {0})
 verdict c t =
     rackJudged (c .rack)

@@ -1,4 +1,4 @@
--- Document 01's vocabulary: slots, load, disks, the rack as a list of disks by number, and the accepted ranges.
+-- The vocabulary: slots, load, disks, the rack as a list of disks by number, 01's ranges, and 02's one ratio of load to slots.
 use Prim.Native.Nat.{ℕ, _+_, _*_, min}
 use mathlib.Core.Bool.{Bool, true, _&&_}
 use mathlib.Core.List.{List, [], _∷_}
@@ -18,7 +18,7 @@ disk k l = record { slots = k; load = l }
 abbrev pub rackOf : ℕ → ℕ → ℕ → List Disk
 rackOf disks slots load = replicate disks (disk slots load)
 
--- The disks of a rack of the code.
+-- The disks of N, k and L as the code has them together.
 abbrev pub disksOf : Rack → List Disk
 disksOf rack = rackOf (rack .disks) (rack .slots .0) (rack .streams .0)
 

@@ -5,3 +5,4 @@ pub mod Small
 pub mod Answers
 pub mod Texts
 pub mod Outputs
+pub mod EqualOutput

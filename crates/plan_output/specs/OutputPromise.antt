@@ -8,7 +8,7 @@ use lib.ListN.{length, take}
 use Rattle.placement.specs.Tables.{written}
 use Rattle.plan_output.specs.Output.{outputOf}
 
--- No output is longer than the longest text of a well-formed plan.
+-- No output is longer than the longest text of a well-formed plan of equal disks.
 abbrev pub mostOutput : ℕ
 mostOutput = 43885
 

@@ -83,6 +83,8 @@ writings =
     ∷ declines 7 9 (asking (entry 7 4 ∷ 0 ∷ 77 ∷ []) [] 1)
     ∷ writes 94 (writeCall mixedRack mixedTables 1) mixedText
     ∷ declines 10 9 (writeCall (disk 4 8 ∷ disk 2 4 ∷ []) mixedTables 1)
+    ∷ declines 10 9 (writeCall mixedRack (tables (entry 8 3 ∷ entry 2 1 ∷ entry 8 5 ∷ entry 1 0 ∷ entry 3 0 ∷ entry 4 0 ∷ []) (2 ∷ 3 ∷ []) []) 0)
+    ∷ declines 10 9 (writeCall mixedRack (tables (entry 8 3 ∷ entry 2 1 ∷ entry 8 5 ∷ entry 1 0 ∷ entry 3 0 ∷ 0 ∷ 0 ∷ []) (2 ∷ 5 ∷ []) []) 0)
     ∷ declines 12 9 (writeCall (rackOf 1 33 5) (tables [] [] []) 0)
     ∷ declines 12 9 (writeCall [] (tables [] [] []) 0)
     ∷ declines 12 9 (writeCall (disk 2 4 ∷ disk 4 9 ∷ disk 33 66 ∷ []) (tables [] [] []) 0)

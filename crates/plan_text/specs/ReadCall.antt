@@ -32,7 +32,8 @@ withTables lent t (given p) =
     unless (leb (length (p .rack)) (length lent)) 7 0 (roomJudged (p .rack) (length (p .left)) t (given p))
 withTables lent t (refused number second) = refused number second
 
--- "The answer is the rack, S, U and the number of left films": of the rack the number of disks, since the lent list has their entries.
+-- "The answer is the rack, S, U and the number of left films": of the rack the number of disks. Reading puts their entries into the lent list;
+-- judging lends none and tells the number alone.
 pub record Told : Type 0 where
   pub disks : ℕ
   pub served : ℕ
@@ -54,7 +55,7 @@ toldOf p = told (length (p .rack)) (servedOf p) (unservedOf p) (length (p .left)
 abbrev pub answerTo : Verdict Plan → Numbers Told
 answerTo v = answered toldNothing toldOf v
 
--- "Unused copy places below N × k become zero; the left table beyond the films read is untouched."
+-- "Unused copy places below N × k", which is the sum of all slots, "become zero; the left table beyond the films read is untouched."
 abbrev pub holdingPlan : Plan → Tables → Tables
 holdingPlan p t = holding (p .rack) (p .copies) (map entryOf (p .left)) t
 

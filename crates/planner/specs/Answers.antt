@@ -1,4 +1,4 @@
--- Document 01's numbers for planning's answer.
+-- The numbers of planning's answer.
 use Rattle.refusal.specs.Verdict.{Verdict, given, Numbers, answered}
 use Rattle.refusal.specs.Numbers.{refusalOf}
 use Rattle.placement.specs.Planning.{PlanSums, sums}

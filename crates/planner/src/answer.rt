@@ -1,7 +1,7 @@
 // What planning answers.
 use refusal::Refusal;
 
-// A plan's S, U and number of left films, or a refusal. specs/Answers.antt gives document 01's numbers for each case.
+// A plan's S, U and number of left films, or a refusal. specs/Answers.antt gives the numbers for each case.
 pub enum Answer {
     Planned {
         served: u64,

@@ -6,3 +6,4 @@ pub mod Sums
 pub mod Refusals
 pub mod Verdicts
 pub mod Promises
+pub mod RatioWords

@@ -11,7 +11,7 @@ use Rattle.placement.proofs.Tests.{by-test, by-order}
 use Rattle.plan_text.specs.WriteCall.{WriteCall, planOf, roomStated, wellFormedCall, writeVerdict, writeAnswer, spaceGiven, writing, spaceAfter}
 use Rattle.writer.specs.WritePromise.{WritePromise, textHeld}
 use Rattle.writer.proofs.Calls.{formed-plan}
-use Rattle.writer.proofs.Verdicts.{by-rack, refused-rack, refused-ratio, refused-tables, refused-plan, refused-space, given-text}
+use Rattle.writer.proofs.Verdicts.{by-rack, refused-rack, refused-ratio, refused-other, refused-tables, refused-plan, refused-space, given-text}
 
 -- What follows whether a call is refused or its text is written.
 by-end :
@@ -108,6 +108,7 @@ module _ (c : WriteCall) (room exit : List ℕ) (answer : Numbers ℕ) (same : a
     bytes = left;
     refusesRack = λ ranges. refusal-of (refused-rack c room ranges);
     refusesRatio = λ ranges d other. (refusal-of (refused-ratio c room ranges d other), second-of (refused-ratio c room ranges d other));
+    refusesOther = λ ranges unaccepted. refused-other c room ranges unaccepted (λ second e. refusal-of e);
     refusesTables = λ rack stated. refusal-of (refused-tables c room rack stated);
     refusesPlan = λ rack stated formed. refusal-of (refused-plan c room rack stated formed);
     refusesSpace = λ rack stated formed short. refusal-of (refused-space c room rack stated formed short);

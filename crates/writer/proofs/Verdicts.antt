@@ -16,7 +16,7 @@ use Rattle.refusal.proofs.Verdicts.{andThen, unless-passes, unless-refuses}
 use Rattle.placement.specs.Rack.{Disk, disk, firstSlots, firstLoad, disksInRange, sameRatio, allSameRatio, rackAccepted}
 use Rattle.placement.specs.Planning.{ratioJudgedFrom, rackJudged}
 use Rattle.placement.proofs.Tests.{by-test}
-use Rattle.placement.proofs.Conjunctions.{both-true, and-holds}
+use Rattle.placement.proofs.Conjunctions.{both-true, and-holds, false-true}
 use Rattle.placement.proofs.Chains.{rack-then, rack-passes}
 use Rattle.plan_text.specs.WriteCall.{WriteCall, roomStated, wellFormedCall, writeVerdict}
 use Rattle.writer.specs.WritePromise.{OtherRatio, textHeld}
@@ -93,6 +93,14 @@ module _ (c : WriteCall) (room : List ℕ) where
       (λ ratios. accepted (and-holds (disksInRange (c .rack)) _ ranges ratios))
       (λ second e. refusal 13 second (omega arith) (λ other. absurd (other refl)) (behind-ranges ranges ∙ e)))
       (λ ranges. refusal 12 0 (omega arith) (λ other. refl) (refused-rack ranges))
+
+  -- Refusal 13 of a rack in range that is not accepted.
+  pub refused-other :
+      {P : Type 0} → disksInRange (c .rack) ≡ true → rackAccepted (c .rack) ≡ false → ((second : ℕ) → writeVerdict c room ≡ refused 13 second → P) → P
+  refused-other ranges unaccepted refusal =
+      by-ratio (firstSlots (c .rack)) (firstLoad (c .rack)) byTables 1 (c .rack)
+      (λ ratios. false-true (sym unaccepted ∙ and-holds (disksInRange (c .rack)) _ ranges ratios))
+      (λ second e. refusal second (behind-ranges ranges ∙ e))
 
   module _ (rack : rackAccepted (c .rack) ≡ true) where
     -- Each test that holds leaves those behind it.

@@ -1,4 +1,4 @@
--- 01's numbers for each case of `write`'s answer.
+-- The numbers for each case of `write`'s answer.
 use Prim.Native.Nat.{ℕ}
 use Rattle.refusal.specs.Verdict.{Verdict, given, Numbers}
 use Rattle.refusal.specs.Numbers.{refusalOf}

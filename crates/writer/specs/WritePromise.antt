@@ -1,4 +1,4 @@
--- What `write` promises, as one record: 01's definition of the answer and of the bytes, and the same in 01's own words.
+-- What `write` promises, as one record: the definition of the answer and of the bytes, and the same in the documents' words.
 use Prim.Native.Nat.{ℕ, _+_, _≤_, _<_}
 use mathlib.Core.Path.{_≡_}
 use mathlib.Core.Bool.{true, false}
@@ -28,6 +28,7 @@ pub record WritePromise (call : WriteCall) (entry exit : List ℕ) (answer : Num
   -- the first refusal that applies is given, and none otherwise
   pub refusesRack : disksInRange (call .rack) ≡ false → answer .refusal ≡ 12
   pub refusesRatio : disksInRange (call .rack) ≡ true → (d : ℕ) → OtherRatio (call .rack) d → (answer .refusal ≡ 13) × (answer .second ≡ d + 1)
+  pub refusesOther : disksInRange (call .rack) ≡ true → rackAccepted (call .rack) ≡ false → answer .refusal ≡ 13
   pub refusesTables : rackAccepted (call .rack) ≡ true → roomStated call ≡ false → answer .refusal ≡ 7
   pub refusesPlan : rackAccepted (call .rack) ≡ true → roomStated call ≡ true → wellFormedCall call ≡ false → answer .refusal ≡ 10
   pub refusesSpace : rackAccepted (call .rack) ≡ true → roomStated call ≡ true → wellFormedCall call ≡ true → length entry < length (textHeld call) → answer .refusal ≡ 11

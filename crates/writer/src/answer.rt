@@ -1,4 +1,4 @@
-// What writing answers. specs/Answers.antt gives document 01's numbers for it.
+// What writing answers. specs/Answers.antt gives the numbers for it.
 use refusal::Refusal;
 
 // The length of the text, or why writing declines.

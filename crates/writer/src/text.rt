@@ -1,4 +1,4 @@
-// The whole text of a plan: the rack line, a line a disk, the left line and the served line.
+// The whole text of a plan: the rack line, which for unequal disks names each, a line a disk, the left line and the served line.
 use crate::line::put_disk;
 use crate::line::put_left;
 use crate::line::put_mixed;
