@@ -7,8 +7,8 @@ use native.Mathlib.Omega.{arith}
 use borrow.Author.Tests.{leb-false}
 use lib.Dec.{leb}
 use lib.ListN.{length, take, drop}
-use Rattle.placement.specs.Items.{Item, total}
-use Rattle.placement.specs.Rack.{Disk, mostDemand}
+use Rattle.placement.specs.Items.{Item, item, total}
+use Rattle.placement.specs.Rack.{Disk, disk, mostLoad, mostDemand}
 use Rattle.placement.specs.Window.{Window, window, within, series, openings, slidings, windowOf}
 use Rattle.placement.specs.WellFormed.{Each, Entry, summed, SumBounded}
 use Rattle.placement.proofs.Windows.{Windowed, opening, sliding, last, window-cases}
@@ -28,6 +28,25 @@ total-take-next k zero [] entries = omega arith
 total-take-next k zero (x ∷ xs) entries = omega (arith, total-take-suc k (x ∷ xs) entries)
 total-take-next k (suc s) [] entries = omega arith
 total-take-next k (suc s) (x ∷ xs) entries = total-take-next k s xs (entries .1)
+
+module _ (load : ℕ) (list : List Item) (entries : Each (Entry mostDemand) list) where
+  -- An opening below the load, with one film more, keeps to the bound.
+  pub opening-bounded : (m : ℕ) → total (take m list) < load → SumBounded load list (window 0 (suc m))
+  opening-bounded m low = omega (arith, total-take-suc m list entries)
+
+  -- So does the window that starts one film behind a window below the load.
+  pub sliding-bounded : (k s : ℕ) → total (take k (drop s list)) < load → SumBounded load list (window (suc s) k)
+  sliding-bounded k s low = omega (arith, total-take-next k s list entries)
+
+-- The bound in numbers: with the largest load it is 1,065,534.
+pub sum-most : (load : ℕ) (list : List Item) (w : Window) → load ≤ mostLoad → SumBounded load list w → total (within w list) ≤ 1065534
+sum-most load list w most bounded = omega arith
+
+-- A window of two films that reaches it.
+sum-reached :
+    let films = item 1 65534 ∷ item 2 1000000 ∷ [] in
+    total (within (windowOf (disk 2 mostLoad) films) films) ≡ 1065534
+sum-reached = refl
 
 -- What every window of a series has, the one at a place has.
 each-series :
@@ -109,6 +128,6 @@ module _ (d : Disk) (list : List Item) (someSlots : 1 ≤ d .slots) (someLoad : 
   window-summed = go (window-cases d list someLoad)
     where
       go : {w : Window} → Windowed d list w → SumBounded (d .load) list w
-      go (opening m h₁ h₂ reaches before) = omega (arith, total-take-suc m list entries)
-      go (sliding s h reaches before low) = omega (arith, total-take-next (d .slots) s list entries)
+      go (opening m h₁ h₂ reaches before) = opening-bounded (d .load) list entries m before
+      go (sliding s h reaches before low) = sliding-bounded (d .load) list entries (d .slots) s before
       go (last below low) = omega arith

@@ -6,15 +6,13 @@ use native.Mathlib.Omega.{arith}
 use lib.ListN.{length, take, drop}
 use lib.Seq.{take-take}
 use Rattle.placement.specs.Items.{Item, item, total, enter}
-use Rattle.placement.specs.Rack.{Disk, disk, mostDemand}
+use Rattle.placement.specs.Rack.{Disk}
 use Rattle.placement.specs.Window.{Window, window, within, outside, windowOf}
 use Rattle.placement.specs.Disk.{allButLast, lastFilm, stored, copiesOf, listAfter}
 use Rattle.placement.specs.Tables.{entryOf, padded, written}
-use Rattle.placement.specs.WellFormed.{Each, Entry}
 use Rattle.placement.proofs.Windows.{Windowed, window-cases, window-inside, window-size, window-last-needed}
 use Rattle.placement.proofs.Disks.{copies-total}
 use Rattle.placement.proofs.ReadBack.{front-length}
-use Rattle.placement.proofs.WindowSums.{window-summed}
 use Rattle.planner.specs.Keys.{itemsOf, itemOf}
 use Rattle.planner.specs.Copies.{runOf, lessLast}
 use Rattle.planner.proofs.Cuts.{take-map, drop-map, take-drop}
@@ -37,7 +35,6 @@ pub record Filling (d : Disk) (keys : List ℕ) (n start size sum over : ℕ) : 
   pub inside : start + size ≤ n
   pub small : size ≤ d .slots
   pub rest : over ≤ lastFilm (runOf keys start size) .amount
-  pub most : Each (Entry mostDemand) (itemsOf n keys) → over < mostDemand
   pub copies : lessLast over (runOf keys start size) ≡ copiesOf d (itemsOf n keys)
   pub count : size ≡ length (copiesOf d (itemsOf n keys))
   pub serves : sum - over ≡ total (copiesOf d (itemsOf n keys))
@@ -86,7 +83,6 @@ module _
       inside = within-list;
       small = window-size windowed;
       rest = omega (arith, over-last (d .load) run someLoad needed, over-run);
-      most = λ entries. omega (arith, window-summed d list someSlots someLoad entries, ap total films-run, sum-run, overs);
       copies = sym copies-run;
       count = sym (ap length copies-run ∙ lessLast-length over run ∙ run-length keys start size (omega (arith, within-list)));
       serves = omega (arith, copies-total d list someSlots someLoad, ap total films-run, sum-run, over-run);

@@ -9,9 +9,12 @@ use native.Mathlib.Omega.{arith}
 use borrow.Author.Tests.{le-leb, lt-leb}
 use lib.ListN.{length, take, getD}
 use Rattle.placement.specs.Items.{total}
+use Rattle.placement.specs.Rack.{mostDemand}
 use Rattle.placement.specs.Window.{Window, window, series, openings, firstReaching}
+use Rattle.placement.specs.WellFormed.{Each, Entry}
 use Rattle.planner.specs.Search.{Opened}
 use Rattle.placement.proofs.ReadBack.{front-length}
+use Rattle.placement.proofs.WindowSums.{opening-bounded}
 use Rattle.planner.specs.Keys.{itemsOf, itemOf}
 use Rattle.planner.proofs.Runs.{prefix-more}
 use Rattle.planner.proofs.Search.{search-passes, search-finds}
@@ -72,6 +75,11 @@ module _ {keys : List ℕ} {n slots load most count sum : ℕ} (room : n ≤ len
 
     one-left : most - count ≡ suc (most - suc count)
     one-left = omega arith
+
+    -- One film more, and the sum is at most the load less 1, plus the largest demand.
+    pub openings-bounded : Each (Entry mostDemand) (itemsOf n keys) → sum + a + 1 ≤ load + mostDemand
+    openings-bounded entries =
+        omega (arith, sums-more, opening-bounded load (itemsOf n keys) entries count (subst (λ (t : ℕ). t < load) (p .sums) (p .low)))
 
     -- One film more, still below the load.
     pub openings-pass : sum + a < load → OpeningsPassed keys n slots load most (count + 1) (sum + a)

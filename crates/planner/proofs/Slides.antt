@@ -7,7 +7,10 @@ use native.Mathlib.Numerals.{add-one}
 use native.Mathlib.Omega.{arith}
 use lib.ListN.{length, take, drop, getD}
 use Rattle.placement.specs.Items.{total}
+use Rattle.placement.specs.Rack.{mostDemand}
 use Rattle.placement.specs.Window.{window, series, slidings, lastWindow, firstReaching}
+use Rattle.placement.specs.WellFormed.{Each, Entry}
+use Rattle.placement.proofs.WindowSums.{sliding-bounded}
 use Rattle.planner.specs.Keys.{itemsOf, itemOf}
 use Rattle.planner.proofs.Runs.{run-moves, run-first, run-whole}
 use Rattle.planner.proofs.Search.{search-passes, search-finds}
@@ -62,6 +65,11 @@ module _ {keys : List ℕ} {n slots load start sum : ℕ} (room : n ≤ length k
 
     one-left : n - slots - start ≡ suc (n - slots - suc start)
     one-left = omega arith
+
+    -- One film further, and the sum is at most the load less 1, plus the largest demand.
+    pub slides-bounded : Each (Entry mostDemand) (itemsOf n keys) → sum - a + b + 1 ≤ load + mostDemand
+    slides-bounded entries =
+        omega (arith, sums-move, sliding-bounded load (itemsOf n keys) entries slots start (subst (λ (t : ℕ). t < load) (p .sums) (p .low)))
 
     -- The next window stays below the load.
     pub slides-pass : sum - a + b < load → SlidesPassed keys n slots load (start + 1) (sum - a + b)

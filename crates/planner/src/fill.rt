@@ -35,7 +35,7 @@ pub(crate) struct Step {
 }
 
 // What a sum has above the load.
-fn excess(sum: u64, load: u64) -> u64
+fn excess(sum: u32, load: u32) -> u32
     ensures { λ r. ⌜ r ≡ sum - load ⌝ }
 {
     if sum < load {
@@ -77,18 +77,18 @@ pub(crate) fn fill_one(
     ensures { λ r. ⌜ r .served ≡ total (copiesOf (disk (slots .0) (streams .0)) (itemsOf n (now (keys .entry)))) ⌝ }
 {
     let places = slots.0 as usize;
-    let load = streams.0 as u64;
+    let load = streams.0;
     let found = find_window(keys, n, places, load);
     let start = found.start;
     let size = found.size;
     let sum = found.sum;
-    let over = excess(sum, load) as u32;
+    let over = excess(sum, load);
     store_entries(copies, keys, start, size, over, places);
     let left = take_window(keys, n, start, size, over);
     Step {
         left,
         copies: size as u32,
-        served: sum - over as u64,
+        served: (sum - over) as u64,
     }
 }
 

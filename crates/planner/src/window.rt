@@ -1,4 +1,5 @@
-// The search for a disk's window: opening films, sliding windows, the last window.
+// The search for a disk's window: opening films, sliding windows, the last window. The running total is a number of 32 bits. It is below
+// the load when a film is added, so that no sum passes 1,065,534: a load of 65,535 less 1, and a demand of 1,000,000.
 use crate::key;
 ghost use mathlib.Core.Path.{_≡_};
 ghost use Prim.Native.Nat.{_≤_, _<_, min};
@@ -13,14 +14,14 @@ ghost use Rattle.planner.specs.Search.{Opened};
 // A number of opening films and the sum of their amounts.
 struct Prefix {
     count: usize,
-    sum: u64,
+    sum: u32,
 }
 
 // A window of the list and the sum of its amounts.
 pub(crate) struct Found {
     pub(crate) start: usize,
     pub(crate) size: usize,
-    pub(crate) sum: u64,
+    pub(crate) sum: u32,
 }
 
 // The smaller of two numbers.
@@ -34,7 +35,7 @@ pub(crate) fn smaller(a: usize, b: usize) -> usize
 }
 
 // The first opening films that reach the load, or the most that a disk takes.
-fn opening(keys: &[u64], n: usize, slots: usize, load: u64) -> Prefix
+fn opening(keys: &[u64], n: usize, slots: usize, load: u32) -> Prefix
     requires { ⌜ (n ≤ length (now keys)) × (1 ≤ load) × (load ≤ 65535) × Each (Entry mostDemand) (itemsOf n (now keys)) ⌝ }
     ensures { λ r. ⌜ Opened slots load (itemsOf n (now (keys .entry))) (r .count) (r .sum) ⌝ }
 {
@@ -42,7 +43,7 @@ fn opening(keys: &[u64], n: usize, slots: usize, load: u64) -> Prefix
     let mut count = 0;
     let mut sum = 0;
     while count < most {
-        sum += key::summand(keys[count]);
+        sum += key::amount(keys[count]);
         count += 1;
         if load <= sum {
             return Prefix { count, sum };
@@ -53,7 +54,7 @@ fn opening(keys: &[u64], n: usize, slots: usize, load: u64) -> Prefix
 
 // The first window of `slots` films from the second film on that reaches the load, or the last window. `first` is the sum
 // of the window at the list's start, and the sum goes along: a turn takes the first film out and the next one in.
-fn slide(keys: &[u64], n: usize, slots: usize, load: u64, first: u64) -> Found
+fn slide(keys: &[u64], n: usize, slots: usize, load: u32, first: u32) -> Found
     requires { ⌜ (n ≤ length (now keys)) × (1 ≤ slots) × (load ≤ 65535) × Each (Entry mostDemand) (itemsOf n (now keys)) ⌝ }
     requires { ⌜ (first ≡ total (take slots (itemsOf n (now keys)))) × (first < load) ⌝ }
     ensures { λ r. ⌜ window (r .start) (r .size) ≡ firstReaching load (itemsOf n (now (keys .entry))) (slidings slots n) (lastWindow slots n) ⌝ }
@@ -62,7 +63,7 @@ fn slide(keys: &[u64], n: usize, slots: usize, load: u64, first: u64) -> Found
     let mut start = 0;
     let mut sum = first;
     while slots < n - start {
-        sum = sum - key::summand(keys[start]) + key::summand(keys[start + slots]);
+        sum = sum - key::amount(keys[start]) + key::amount(keys[start + slots]);
         start += 1;
         if load <= sum {
             return Found {
@@ -80,7 +81,7 @@ fn slide(keys: &[u64], n: usize, slots: usize, load: u64, first: u64) -> Found
 }
 
 // The window of a disk, of the first `n` keys.
-pub(crate) fn find_window(keys: &[u64], n: usize, slots: usize, load: u64) -> Found
+pub(crate) fn find_window(keys: &[u64], n: usize, slots: usize, load: u32) -> Found
     requires { ⌜ (n ≤ length (now keys)) × (1 ≤ slots) ⌝ }
     requires { ⌜ (1 ≤ load) × (load ≤ 65535) × Each (Entry mostDemand) (itemsOf n (now keys)) ⌝ }
     ensures { λ r. ⌜ window (r .start) (r .size) ≡ windowOf (disk slots load) (itemsOf n (now (keys .entry))) ⌝ }

@@ -6,9 +6,12 @@ use Rattle.planner.proofs.Filling.{Filling, filling, copies-stored, win
 use Rattle.planner.proofs.fill.fill_one.Statement.{statement}
 use Rattle.planner.proofs.fill.fill_one.Tie as tie
 
--- The start and the disk, as they are seen once `over` is worked out.
+-- The window's finding, the start and the disk, as they are seen once `over` is worked out.
+abbrev window-of : tie.After-excess → tie.After-find-window
+window-of c = c .before
+
 abbrev start : tie.After-excess → tie.Start
-start c = c .before .before .before .before .before .before .before
+start c = window-of c .before .before .before .before .before
 
 abbrev filled : tie.After-excess → Disk
 filled c = disk (start c .args .slots .0) (start c .args .streams .0)
@@ -16,16 +19,13 @@ filled c = disk (start c .args .slots .0) (start c .args .streams .0)
 -- The window as it is known then.
 known :
     (c : tie.After-excess)
-    → Filling (filled c) (start c .args .keys .now) (start c .args .n) (c .before .find-window .result .start) (c .before .find-window .result .size)
-    (c .before .find-window .result .sum) (c .excess .result)
+    → Filling (filled c) (start c .args .keys .now) (start c .args .n) (window-of c .find-window .result .start) (window-of c .find-window .result .size)
+    (window-of c .find-window .result .sum) (c .excess .result)
 known c =
     let p = start c .pre in
-    let found = c .before .find-window in
+    let found = window-of c .find-window in
     filling (filled c) (start c .args .keys .now) (start c .args .n) (found .result .start) (found .result .size) (found .result .sum)
     (c .excess .result) (p .0 .1) (p .1 .0) (p .1 .1) (found .ensures .0) (found .ensures .1) (c .excess .ensures)
-
-cast-over : tie.Need-cast-over
-cast-over c = omega (arith, known c .most (start c .pre .1 .3))
 
 store-entries-requires : tie.Need-store-entries-requires
 store-entries-requires c κs =
@@ -43,11 +43,8 @@ take-window-requires c κs =
 abbrev excess-of : tie.After-take-window → tie.After-excess
 excess-of c = c .before .before .before .before .before .before .before
 
-cast-t24 : tie.Need-cast-t24
-cast-t24 c = omega (arith, known (excess-of (c .before .before)) .small)
-
-sub-t25 : tie.Need-sub-t25
-sub-t25 c = omega (arith, excess-of (c .before .before) .excess .ensures)
+cast-t23 : tie.Need-cast-t23
+cast-t23 c = omega (arith, known (excess-of (c .before .before)) .small)
 
 returns : tie.Need-returns
 returns c =
@@ -64,15 +61,13 @@ fill-one-spec =
     tie.close
     (tie.spec
     (λ c. search needs)
-    (λ c. search needs)
     (λ c κs. search needs)
     (λ c κs. search needs)
-    cast-over
     store-entries-requires
     take-window-requires
-    cast-t24
+    cast-t23
     (λ c. search needs)
-    sub-t25
+    (λ c. search needs)
     (λ c. search needs)
     (λ c. search needs)
     returns)

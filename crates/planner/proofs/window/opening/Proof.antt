@@ -2,9 +2,7 @@
 use Prim.Native.Nat.{_-_}
 use native.Mathlib.Omega.{arith}
 use borrow.Author.Needs.{needs}
-use Rattle.placement.specs.Rack.{mostDemand}
-use Rattle.planner.proofs.Places.{amount-most}
-use Rattle.planner.proofs.Openings.{OpeningsPassed, openings-begin, openings-end, openings-pass, openings-find}
+use Rattle.planner.proofs.Openings.{OpeningsPassed, openings-begin, openings-end, openings-bounded, openings-pass, openings-find}
 use Rattle.planner.proofs.window.opening.Statement.{statement}
 use Rattle.planner.proofs.window.opening.Tie as tie
 
@@ -23,26 +21,21 @@ add-sum : tie.Need-add-sum Inv-loop μ-loop
 add-sum c =
     let at-loop = c .before .before .before in
     let at-start = at-loop .before .before .before in
-    omega (
-      arith,
-      c .summand .ensures,
-      amount-most mostDemand (at-start .args .keys .now) (at-start .args .n) (at-loop .loop .count) (omega (arith, at-loop .loop .inv .most-is))
-          (at-start .pre .0) (at-start .pre .3),
-    )
+    omega (arith, openings-bounded (at-start .pre .0) (at-loop .loop .inv) (c .amount .ensures) (omega arith) (at-start .pre .3))
 
 returns : tie.Need-returns Inv-loop μ-loop
 returns c =
     let at-loop = c .before .before .before .before in
     let at-start = at-loop .before .before .before in
     openings-find (at-start .pre .0) (at-loop .loop .inv)
-    (c .before .summand .ensures) (omega arith) (omega arith)
+    (c .before .amount .ensures) (omega arith) (omega arith)
 
 loop-again : tie.Need-loop-again Inv-loop μ-loop
 loop-again c =
     let at-loop = c .before .before .before .before in
     let at-start = at-loop .before .before .before in
     openings-pass (at-start .pre .0) (at-loop .loop .inv)
-    (c .before .summand .ensures) (omega arith) (omega arith)
+    (c .before .amount .ensures) (omega arith) (omega arith)
 
 returns-2 : tie.Need-returns-2 Inv-loop μ-loop
 returns-2 c =

@@ -1,12 +1,10 @@
 -- `planner::window::slide` meets its contract. The invariant: the window at `start` sums to less than the load, and the search goes on behind it.
-use Prim.Native.Nat.{_+_, _-_, _≤_}
+use Prim.Native.Nat.{_-_, _≤_}
 use native.Mathlib.Omega.{arith}
 use borrow.Author.Needs.{needs}
 use lib.ListN.{getD}
-use Rattle.placement.specs.Rack.{mostDemand}
 use Rattle.planner.specs.Keys.{itemOf}
-use Rattle.planner.proofs.Places.{amount-most}
-use Rattle.planner.proofs.Slides.{SlidesPassed, slides-begin, slides-first, slides-end, slides-end-sum, slides-pass, slides-find, slides-find-sum}
+use Rattle.planner.proofs.Slides.{SlidesPassed, slides-begin, slides-first, slides-end, slides-end-sum, slides-bounded, slides-pass, slides-find, slides-find-sum}
 use Rattle.planner.proofs.window.slide.Statement.{statement}
 use Rattle.planner.proofs.window.slide.Tie as tie
 
@@ -29,7 +27,7 @@ sub-sum c =
     let first : itemOf (getD (at-start .args .keys .now) (at-loop .loop .start) 0) .amount ≤ at-loop .loop .sum =
     slides-first (at-start .pre .0 .0) (at-loop .loop .inv) (at-start .pre .0 .1)
     (omega arith) in
-    omega (arith, c .summand .ensures)
+    omega (arith, c .amount .ensures)
 
 add-sum : tie.Need-add-sum Inv-loop μ-loop
 add-sum c =
@@ -38,10 +36,8 @@ add-sum c =
     let at-start = at-loop .before .before in
     omega (
       arith,
-      c .summand2 .ensures,
-      at-loop .loop .inv .low,
-      amount-most mostDemand (at-start .args .keys .now) (at-start .args .n) (at-loop .loop .start + at-start .args .slots) (omega arith)
-          (at-start .pre .0 .0) (at-start .pre .0 .3),
+      slides-bounded (at-start .pre .0 .0) (at-loop .loop .inv) (at-first .amount .ensures) (c .amount2 .ensures) (at-start .pre .0 .1) (omega arith)
+          (at-start .pre .0 .3),
     )
 
 returns : tie.Need-returns Inv-loop μ-loop
@@ -49,8 +45,8 @@ returns c =
     let at-first = c .before .before .before in
     let at-loop = at-first .before .before .before in
     let at-start = at-loop .before .before in (
-      slides-find (at-start .pre .0 .0) (at-loop .loop .inv) (at-first .summand .ensures) (c .before .summand2 .ensures) (at-start .pre .0 .1) (omega arith) (omega arith),
-      slides-find-sum (at-start .pre .0 .0) (at-loop .loop .inv) (at-first .summand .ensures) (c .before .summand2 .ensures) (at-start .pre .0 .1) (omega arith),
+      slides-find (at-start .pre .0 .0) (at-loop .loop .inv) (at-first .amount .ensures) (c .before .amount2 .ensures) (at-start .pre .0 .1) (omega arith) (omega arith),
+      slides-find-sum (at-start .pre .0 .0) (at-loop .loop .inv) (at-first .amount .ensures) (c .before .amount2 .ensures) (at-start .pre .0 .1) (omega arith),
     )
 
 loop-again : tie.Need-loop-again Inv-loop μ-loop
@@ -58,7 +54,7 @@ loop-again c =
     let at-first = c .before .before .before in
     let at-loop = at-first .before .before .before in
     let at-start = at-loop .before .before in
-    slides-pass (at-start .pre .0 .0) (at-loop .loop .inv) (at-first .summand .ensures) (c .before .summand2 .ensures) (at-start .pre .0 .1) (omega arith) (omega arith)
+    slides-pass (at-start .pre .0 .0) (at-loop .loop .inv) (at-first .amount .ensures) (c .before .amount2 .ensures) (at-start .pre .0 .1) (omega arith) (omega arith)
 
 returns-2 : tie.Need-returns-2 Inv-loop μ-loop
 returns-2 c =
