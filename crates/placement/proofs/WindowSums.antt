@@ -39,7 +39,7 @@ module _ (load : ℕ) (list : List Item) (entries : Each (Entry mostDemand) list
   sliding-bounded k s low = omega (arith, total-take-next k s list entries)
 
 -- The bound in numbers: with the largest load it is 1,065,534.
-pub sum-most : (load : ℕ) (list : List Item) (w : Window) → load ≤ mostLoad → SumBounded load list w → total (within w list) ≤ 1065534
+sum-most : (load : ℕ) (list : List Item) (w : Window) → load ≤ mostLoad → SumBounded load list w → total (within w list) ≤ 1065534
 sum-most load list w most bounded = omega arith
 
 -- A window of two films that reaches it.

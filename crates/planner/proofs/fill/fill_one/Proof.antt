@@ -6,12 +6,9 @@ use Rattle.planner.proofs.Filling.{Filling, filling, copies-stored, win
 use Rattle.planner.proofs.fill.fill_one.Statement.{statement}
 use Rattle.planner.proofs.fill.fill_one.Tie as tie
 
--- The window's finding, the start and the disk, as they are seen once `over` is worked out.
-abbrev window-of : tie.After-excess → tie.After-find-window
-window-of c = c .before
-
+-- The start and the disk, as they are seen once `over` is worked out.
 abbrev start : tie.After-excess → tie.Start
-start c = window-of c .before .before .before .before .before
+start c = c .before .before .before .before .before .before
 
 abbrev filled : tie.After-excess → Disk
 filled c = disk (start c .args .slots .0) (start c .args .streams .0)
@@ -19,11 +16,11 @@ filled c = disk (start c .args .slots .0) (start c .args .streams .0)
 -- The window as it is known then.
 known :
     (c : tie.After-excess)
-    → Filling (filled c) (start c .args .keys .now) (start c .args .n) (window-of c .find-window .result .start) (window-of c .find-window .result .size)
-    (window-of c .find-window .result .sum) (c .excess .result)
+    → Filling (filled c) (start c .args .keys .now) (start c .args .n) (c .before .find-window .result .start) (c .before .find-window .result .size)
+    (c .before .find-window .result .sum) (c .excess .result)
 known c =
     let p = start c .pre in
-    let found = window-of c .find-window in
+    let found = c .before .find-window in
     filling (filled c) (start c .args .keys .now) (start c .args .n) (found .result .start) (found .result .size) (found .result .sum)
     (c .excess .result) (p .0 .1) (p .1 .0) (p .1 .1) (found .ensures .0) (found .ensures .1) (c .excess .ensures)
 
