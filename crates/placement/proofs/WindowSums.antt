@@ -97,7 +97,7 @@ module _ (d : Disk) (list : List Item) (someSlots : 1 ≤ d .slots) (someLoad : 
   openings-summed : Summed (d .load) list (openings (d .slots) (length list))
   openings-summed =
       summed-series (d .load) list (λ n. window 0 n) (λ j. total-take-suc j list entries) 1 (min (d .slots) (length list))
-      (omega (arith, total-take-suc 0 list entries))
+      (opening-bounded (d .load) list entries 0 someLoad)
 
   -- So do the slidings, which are summed where no opening reaches the load.
   slidings-summed : Each (Below (d .load) list) (openings (d .slots) (length list)) → Summed (d .load) list (slidings (d .slots) (length list))
@@ -107,7 +107,7 @@ module _ (d : Disk) (list : List Item) (someSlots : 1 ≤ d .slots) (someLoad : 
       go zero e = tt
       go (suc q) e =
           summed-series (d .load) list (λ s. window s (d .slots)) (λ j. total-take-next (d .slots) j list entries) 1 (suc q)
-          (omega (arith, total-take-next (d .slots) 0 list entries, whole))
+          (sliding-bounded (d .load) list entries (d .slots) 0 whole)
         where
           same : 1 + (d .slots - 1) ≡ d .slots
           same = omega arith

@@ -76,10 +76,10 @@ module _ {keys : List ℕ} {n slots load most count sum : ℕ} (room : n ≤ len
     one-left : most - count ≡ suc (most - suc count)
     one-left = omega arith
 
-    -- One film more, and the sum is at most the load less 1, plus the largest demand.
+    -- One film more keeps to the bound.
     pub openings-bounded : Each (Entry mostDemand) (itemsOf n keys) → sum + a + 1 ≤ load + mostDemand
     openings-bounded entries =
-        omega (arith, sums-more, opening-bounded load (itemsOf n keys) entries count (subst (λ (t : ℕ). t < load) (p .sums) (p .low)))
+        omega (arith, sums-more, opening-bounded load (itemsOf n keys) entries count (omega (arith, p .sums, p .low)))
 
     -- One film more, still below the load.
     pub openings-pass : sum + a < load → OpeningsPassed keys n slots load most (count + 1) (sum + a)

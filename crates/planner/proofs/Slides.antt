@@ -66,10 +66,10 @@ module _ {keys : List ℕ} {n slots load start sum : ℕ} (room : n ≤ length k
     one-left : n - slots - start ≡ suc (n - slots - suc start)
     one-left = omega arith
 
-    -- One film further, and the sum is at most the load less 1, plus the largest demand.
+    -- One film further keeps to the bound.
     pub slides-bounded : Each (Entry mostDemand) (itemsOf n keys) → sum - a + b + 1 ≤ load + mostDemand
     slides-bounded entries =
-        omega (arith, sums-move, sliding-bounded load (itemsOf n keys) entries slots start (subst (λ (t : ℕ). t < load) (p .sums) (p .low)))
+        omega (arith, sums-move, sliding-bounded load (itemsOf n keys) entries slots start (omega (arith, p .sums, p .low)))
 
     -- The next window stays below the load.
     pub slides-pass : sum - a + b < load → SlidesPassed keys n slots load (start + 1) (sum - a + b)

@@ -64,7 +64,7 @@ slide-requires c κs =
     let first : at-opening .opening .result .sum ≡ total (take (at-start .args .slots) (itemsOf (at-start .args .n) (at-start .args .keys .now))) =
     first-sum (at-start .args .slots) (at-start .args .load) (itemsOf (at-start .args .n) (at-start .args .keys .now))
     (at-opening .opening .result .count) (at-opening .opening .result .sum) (at-opening .opening .ensures) (omega arith) in
-    ((at-start .pre .0 .0, at-start .pre .0 .1, at-start .pre .1 .1, at-start .pre .1 .2), (first, omega arith))
+    ((at-start .pre .0 .0, at-start .pre .0 .1, omega (arith, at-start .pre .1 .1), at-start .pre .1 .2), (first, omega arith))
 
 returns-2 : tie.Need-returns-2
 returns-2 c =
