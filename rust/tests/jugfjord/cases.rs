@@ -203,6 +203,19 @@ fn i_a_repeated_film_is_refused() {
     expect_refused(&rack(1, 1, 5), &[(5, 3), (5, 3)], 6, 2);
 }
 
+/// 65,534 and 1,000,000 in the opening films; 65,533 and 1,000,000 in a sliding window.
+#[test]
+fn the_largest_window_sums_are_planned() {
+    let list = [(2, 1_000_000), (1, 65_534)];
+    let disks: [&[Pair]; 1] = [&[(1, 65_534), (2, 1)]];
+    let left = [(2, 999_999)];
+    expect(rack(1, 2, 65_535), &list, &disks, &left, (65_535, 999_999));
+    let list = [(2, 65_533), (3, 1_000_000), (1, 1)];
+    let disks: [&[Pair]; 1] = [&[(2, 65_533), (3, 2)]];
+    let left = [(1, 1), (3, 999_998)];
+    expect(rack(1, 2, 65_535), &list, &disks, &left, (65_535, 999_999));
+}
+
 #[test]
 fn a_film_of_demand_0_without_a_free_slot_is_left() {
     let list = [(7, 5), (2, 0)];
