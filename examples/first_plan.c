@@ -1,4 +1,5 @@
-/* Plans a rack of 3 equal disks and 12 films, prints the text, judges it and reads it back. A program to copy, in C99 or C++:
+/* Plans a rack of 3 equal disks and 12 films, prints the text, judges it, reads it back, and plans the same list after that
+ * text, so that every copy is held. A program to copy, in C99 or C++:
  *   cc first_plan.c $(pkg-config --cflags --libs jugfjord) && ./a.out */
 #include <inttypes.h>
 #include <jugfjord.h>
@@ -50,6 +51,20 @@ static uint8_t list_byte(uint32_t i)
     return (jugfjord_entry(film, film <= 10 ? 1 : 4) >> (i % 8 * 8)) & 0xff;
 }
 
+/* Whether each copy of a plan is marked; says so on standard error where one is not and would have to be copied. */
+static int all_held(const struct plan *plan)
+{
+    for (uint32_t disk = 0; disk < DISKS; disk++) {
+        for (uint32_t place = 0; place < plan->counts[disk]; place++) {
+            uint64_t copy = plan->copies[disk * SLOTS + place];
+            if (jugfjord_entry_mark(copy) == 1) continue;
+            fprintf(stderr, "film %" PRIu32 " is to be copied to disk %" PRIu32 "\n", jugfjord_entry_film(copy), disk + 1);
+            return 0;
+        }
+    }
+    return 1;
+}
+
 int main(void)
 {
     for (uint32_t i = 0; i < 8 * FILMS; i++) list[i] = list_byte(i);
@@ -78,5 +93,9 @@ int main(void)
         fprintf(stderr, "the plan that was read is not the plan that was made\n");
         return 1;
     }
-    return 0;
+
+    planned = jugfjord_plan_after(found.rack, DISKS, list, sizeof list, text, written.length, found.copies, JUGFJORD_MOST_COPIES,
+                                  found.counts, JUGFJORD_MOST_DISKS, found.left, JUGFJORD_MOST_LEFT);
+    if (refused("planning after a text", planned.number, planned.second)) return 1;
+    return all_held(&found) ? 0 : 1;
 }

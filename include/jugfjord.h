@@ -18,15 +18,19 @@
  * but all have one ratio of streams to slots. `jugfjord_equal_rack` makes the entries of a rack of equal disks. Planning fills
  * the disks by ascending slots, equal ones by number.
  *
- * Tables: `copies` is the copy table, `left` the left table. An entry of either is one number, the film in its low 32 bits and
- * the viewers or the amount in its high 32 bits. `counts` has the number of copies of each disk. The disks stand by number,
- * whatever their slots: disk 1 has its copies from place 0 on, and each other disk from the place after the slots of all disks
- * before it. Planning and reading set the unused copy places to 0, and writing asks for that.
- * JUGFJORD_MOST_COPIES, JUGFJORD_MOST_DISKS and JUGFJORD_MOST_LEFT places are always enough.
+ * Tables: `copies` is the copy table, `left` the left table. An entry of either is one number: the film in its low 16 bits, in
+ * the copy table the mark in the 16 bits above it, and the viewers or the amount in its high 32 bits. `counts` has the number of
+ * copies of each disk. The disks stand by number, whatever their slots: disk 1 has its copies from place 0 on, and each other
+ * disk from the place after the slots of all disks before it. Planning and reading set the unused copy places to 0, and writing
+ * asks for that. JUGFJORD_MOST_COPIES, JUGFJORD_MOST_DISKS and JUGFJORD_MOST_LEFT places are always enough.
  *
  * A copy with 0 viewers is a shelf copy. Planning takes the films of demand 0 in ascending number and stores each on the
  * lowest disk with a free slot, behind its other copies; with no free slot the film is left with amount 0. So an entry with
  * amount 0 may be a film: go by `counts` and by the number of left films.
+ *
+ * The mark of a copy is 1 where the same disk held the same film in an earlier plan, so that it need not be copied again; else
+ * it is 0. `jugfjord_plan_after` sets it, `jugfjord_plan` sets none, writing shows it as `(8 1 held)` and reading takes it from
+ * there. A left film has no mark.
  *
  * `served` is the sum of viewers over all copies, `unserved` what is left in sum.
  *
@@ -43,15 +47,15 @@
 extern "C" {
 #endif
 
-#define JUGFJORD_VERSION "0.4.0"
+#define JUGFJORD_VERSION "0.5.0"
 #define JUGFJORD_VERSION_MAJOR 0
-#define JUGFJORD_VERSION_MINOR 4
+#define JUGFJORD_VERSION_MINOR 5
 #define JUGFJORD_VERSION_PATCH 0
 
 #define JUGFJORD_MOST_COPIES 2048 /* the slots of all disks */
 #define JUGFJORD_MOST_DISKS 64
 #define JUGFJORD_MOST_LEFT 1024
-#define JUGFJORD_MOST_TEXT 44565 /* bytes of the longest plan text */
+#define JUGFJORD_MOST_TEXT 54800 /* bytes of the longest plan text */
 
 /* The refusals. `second` is the record for 4, 5 and 6, the line for 9 and the disk for 13, each from 1; 0 for the others. */
 #define JUGFJORD_REFUSED_RACK_OUT_OF_RANGE 1   /* of the program `plan` alone, in the place of 12; no function here gives it */
@@ -68,23 +72,37 @@ extern "C" {
 #define JUGFJORD_REFUSED_DISKS_OUT_OF_RANGE 12 /* disks not 1 to 64, or of one slots not 1 to 32 or streams not 1 to 65,535 */
 #define JUGFJORD_REFUSED_RATIO_DIFFERS 13      /* the first disk whose ratio of streams to slots is not that of disk 1 */
 
-/* The entry of a film with its viewers or its amount. */
+/* The entry of a film with its viewers or its amount, without a mark. */
 static inline uint64_t jugfjord_entry(uint32_t film, uint32_t amount)
 {
     uint64_t high = amount;
     return (high << 32) | film;
 }
 
-/* The film of an entry. */
+/* The film of an entry: its low 16 bits. */
 static inline uint32_t jugfjord_entry_film(uint64_t entry)
 {
-    return entry & 0xffffffff;
+    return entry & 0xffff;
+}
+
+/* The mark of a copy's entry: 1 where the disk held the film before, else 0. */
+static inline uint32_t jugfjord_entry_mark(uint64_t entry)
+{
+    return (entry >> 16) & 0xffff;
 }
 
 /* The viewers or the amount of an entry. */
 static inline uint32_t jugfjord_entry_amount(uint64_t entry)
 {
-    return jugfjord_entry_film(entry >> 32);
+    uint64_t high = entry >> 32;
+    return high & 0xffffffff;
+}
+
+/* The entry of a copy with this mark instead of its own. */
+static inline uint64_t jugfjord_entry_with_mark(uint64_t entry, uint16_t mark)
+{
+    uint64_t above = mark;
+    return (entry & ~UINT64_C(0xffff0000)) | (above << 16);
 }
 
 /* A disk of a rack: how many films it stores and how many viewers it serves. */
@@ -119,6 +137,18 @@ struct jugfjord_planned jugfjord_plan(const struct jugfjord_disk *rack, size_t r
                                       uint64_t *copies, size_t copies_count,
                                       uint32_t *counts, size_t counts_count,
                                       uint64_t *left, size_t left_count);
+
+/* Plans as `jugfjord_plan` does, and marks each copy whose film the same disk held in an earlier plan. `earlier` is the text of
+ * that plan; its rack may be any other, its viewers and marks do not matter, a copy with 0 viewers was held, a left film was
+ * not, and a disk that it lacks held nothing. Without their marks the tables and the answer are those of `jugfjord_plan`.
+ * Refusals those of `jugfjord_plan`, then 8 and 9 with the line for the earlier text; an empty text is 9 at line 1. Less than
+ * 112 KiB of stack. */
+struct jugfjord_planned jugfjord_plan_after(const struct jugfjord_disk *rack, size_t rack_count,
+                                            const uint8_t *list, size_t list_count,
+                                            const uint8_t *earlier, size_t earlier_count,
+                                            uint64_t *copies, size_t copies_count,
+                                            uint32_t *counts, size_t counts_count,
+                                            uint64_t *left, size_t left_count);
 
 struct jugfjord_written {
     uint32_t number;

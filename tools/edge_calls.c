@@ -16,6 +16,10 @@ static const uint8_t empty_plan[] = "(rack 1 1 1)\n(disk 1)\n(left)\n(served 0 0
 static const size_t empty_plan_length = sizeof empty_plan - 1;
 static const uint8_t mixed_plan[] = "(mixed (4 8) (2 4))\n(disk 1 (2 3) (3 5))\n(disk 2 (1 3) (2 1))\n(left)\n(served 12 0)\n";
 static const size_t mixed_plan_length = sizeof mixed_plan - 1;
+static const uint8_t marked_plan[] = "(rack 1 1 1)\n(disk 1 (7 1 held))\n(left (7 2))\n(served 1 2)\n";
+static const size_t marked_plan_length = sizeof marked_plan - 1;
+/* Film 7 with demand 3, of which one disk of one stream leaves 2. */
+static const uint8_t film_7[8] = {7, 0, 0, 0, 3, 0, 0, 0};
 static int right, wrong;
 
 /* Counts a call's answer as right or wrong: its number and second number. */
@@ -194,6 +198,115 @@ static void unequal_disks(void)
     expect_disk("the entry beyond", rack[2], 7, 7);
 }
 
+/* The parts of an entry. */
+static void entries(void)
+{
+    uint64_t copy = jugfjord_entry_with_mark(jugfjord_entry(65535, 3), 1);
+    expect_number("a marked entry", copy, (UINT64_C(3) << 32) + (UINT64_C(1) << 16) + 65535);
+    expect_number("its film", jugfjord_entry_film(copy), 65535);
+    expect_number("its mark", jugfjord_entry_mark(copy), 1);
+    expect_number("its viewers", jugfjord_entry_amount(copy), 3);
+    expect_number("it without its mark", jugfjord_entry_with_mark(copy, 0), jugfjord_entry(65535, 3));
+    copy = jugfjord_entry_with_mark(jugfjord_entry(1, 4294967295U), 65535);
+    expect_number("the film below the largest mark", jugfjord_entry_film(copy), 1);
+    expect_number("the largest mark", jugfjord_entry_mark(copy), 65535);
+    expect_number("the viewers above it", jugfjord_entry_amount(copy), 4294967295U);
+    expect_number("the mark of an entry", jugfjord_entry_mark(jugfjord_entry(65535, 4294967295U)), 0);
+}
+
+/* Plans film 7 on one disk after the first bytes of a text. */
+static struct jugfjord_planned plan_after(const uint8_t *earlier, size_t bytes)
+{
+    return jugfjord_plan_after(one_disk, 1, film_7, sizeof film_7, earlier, bytes, copies, 1, counts, 1, left, 1);
+}
+
+/* Planning after a text with nothing lent, after a wrong text, and after texts whose disk held the film or did not. */
+static void plan_after_texts(void)
+{
+    struct jugfjord_planned p = jugfjord_plan_after(NULL, 0, NULL, 0, NULL, 0, NULL, 0, NULL, 0, NULL, 0);
+    expect("plan after of no rack", p.number, p.second, JUGFJORD_REFUSED_DISKS_OUT_OF_RANGE, 0);
+    p = jugfjord_plan_after(one_disk, 1, film_7, 7, NULL, 0, NULL, 0, NULL, 0, NULL, 0);
+    expect("plan after of 7 bytes", p.number, p.second, JUGFJORD_REFUSED_LIST_LENGTH, 0);
+    p = jugfjord_plan_after(one_disk, 1, film_7, sizeof film_7, NULL, 0, NULL, 0, NULL, 0, NULL, 0);
+    expect("plan after without tables", p.number, p.second, JUGFJORD_REFUSED_TABLES_TOO_SHORT, 0);
+    copies[0] = 5;
+    p = plan_after(NULL, 0);
+    expect("plan after no text", p.number, p.second, JUGFJORD_REFUSED_LINE, 1);
+    p = plan_after(empty_plan, empty_plan_length - 1);
+    expect("plan after an unended line", p.number, p.second, JUGFJORD_REFUSED_LINE, 4);
+    p = plan_after(text, TEXT);
+    expect("plan after 65,537 bytes", p.number, p.second, JUGFJORD_REFUSED_TEXT_TOO_LONG, 0);
+    expect_number("a copy place after a refusal", copies[0], 5);
+    p = plan_after(empty_plan, empty_plan_length);
+    expect("plan after the empty plan", p.number, p.second, 0, 0);
+    expect_number("its copy, which was not held", copies[0], jugfjord_entry(7, 1));
+    p = plan_after(marked_plan, marked_plan_length);
+    expect("plan after a plan with its film", p.number, p.second, 0, 0);
+    expect_number("its copy, which was held", copies[0], jugfjord_entry_with_mark(jugfjord_entry(7, 1), 1));
+    expect_number("its left film, which has no mark", left[0], jugfjord_entry(7, 2));
+    expect_number("its viewers not served", p.unserved, 2);
+    p = jugfjord_plan(one_disk, 1, film_7, sizeof film_7, copies, 1, counts, 1, left, 1);
+    expect("plan of the same list", p.number, p.second, 0, 0);
+    expect_number("its copy, which has no mark", copies[0], jugfjord_entry(7, 1));
+}
+
+/* A marked copy: written, read back, and refused with another mark, in a place that is not used, and on a left film. */
+static void marks(void)
+{
+    copies[0] = jugfjord_entry_with_mark(jugfjord_entry(7, 1), 1);
+    counts[0] = 1;
+    left[0] = jugfjord_entry(7, 2);
+    struct jugfjord_written w = jugfjord_write(one_disk, 1, copies, 1, counts, 1, left, 1, 1, text, TEXT);
+    expect("write of a marked copy", w.number, w.second, 0, 0);
+    expect_number("the length of its text", w.length, marked_plan_length);
+    expect_number("the difference of its text", memcmp(text, marked_plan, marked_plan_length) != 0, 0);
+    copies[0] = 5;
+    struct jugfjord_read_plan r = jugfjord_read(marked_plan, marked_plan_length, rack, 1, copies, 1, counts, 1, left, 1);
+    expect("read of a marked copy", r.number, r.second, 0, 0);
+    expect_number("the copy", copies[0], jugfjord_entry_with_mark(jugfjord_entry(7, 1), 1));
+    copies[0] = jugfjord_entry_with_mark(copies[0], 2);
+    w = jugfjord_write(one_disk, 1, copies, 1, counts, 1, left, 1, 1, text, TEXT);
+    expect("write of mark 2", w.number, w.second, JUGFJORD_REFUSED_NOT_WELL_FORMED, 0);
+    copies[0] = jugfjord_entry_with_mark(0, 1);
+    counts[0] = 0;
+    w = jugfjord_write(one_disk, 1, copies, 1, counts, 1, left, 1, 1, text, TEXT);
+    expect("write of a mark in an unused place", w.number, w.second, JUGFJORD_REFUSED_NOT_WELL_FORMED, 0);
+    copies[0] = 0;
+    left[0] = jugfjord_entry_with_mark(left[0], 1);
+    w = jugfjord_write(one_disk, 1, copies, 1, counts, 1, left, 1, 1, text, TEXT);
+    expect("write of a marked left film", w.number, w.second, JUGFJORD_REFUSED_NOT_WELL_FORMED, 0);
+}
+
+/* The longest plan text: unequal disks, every slot with a marked copy, three of a disk with viewers of five digits and the
+ * others of four, and 1,024 left films with the largest amount. */
+static void longest_text(void)
+{
+    static uint64_t all_copies[JUGFJORD_MOST_COPIES], all_left[JUGFJORD_MOST_LEFT];
+    static uint32_t all_counts[JUGFJORD_MOST_DISKS];
+    size_t place = 0;
+    jugfjord_equal_rack(rack, JUGFJORD_MOST_DISKS, 32, 65504);
+    rack[0].slots = 31;
+    rack[0].streams = 63457;
+    for (size_t disk = 0; disk < JUGFJORD_MOST_DISKS; disk++) {
+        all_counts[disk] = rack[disk].slots;
+        for (uint32_t slot = 0; slot < rack[disk].slots; slot++) {
+            uint64_t copy = jugfjord_entry(10000 + slot, slot < 3 ? 10000 : 1000);
+            all_copies[place++] = jugfjord_entry_with_mark(copy, 1);
+        }
+    }
+    for (uint32_t i = 0; i < JUGFJORD_MOST_LEFT; i++) all_left[i] = jugfjord_entry(10000 + i, 1000000);
+    struct jugfjord_written w =
+        jugfjord_write(rack, JUGFJORD_MOST_DISKS, all_copies, JUGFJORD_MOST_COPIES, all_counts, JUGFJORD_MOST_DISKS,
+                       all_left, JUGFJORD_MOST_LEFT, JUGFJORD_MOST_LEFT, text, JUGFJORD_MOST_TEXT - 1);
+    expect("write of the longest text to one byte fewer", w.number, w.second, JUGFJORD_REFUSED_SPACE_TOO_SHORT, 0);
+    w = jugfjord_write(rack, JUGFJORD_MOST_DISKS, all_copies, JUGFJORD_MOST_COPIES, all_counts, JUGFJORD_MOST_DISKS,
+                       all_left, JUGFJORD_MOST_LEFT, JUGFJORD_MOST_LEFT, text, JUGFJORD_MOST_TEXT);
+    expect("write of the longest text", w.number, w.second, 0, 0);
+    expect_number("its length", w.length, JUGFJORD_MOST_TEXT);
+    struct jugfjord_read_plan j = jugfjord_judge(text, JUGFJORD_MOST_TEXT);
+    expect("judgement of the longest text", j.number, j.second, 0, 0);
+}
+
 /* Writing with nothing lent, without space, and of tables that are no plan. */
 static void writing(void)
 {
@@ -262,6 +375,10 @@ int main(void)
     plan_of_shelf_films();
     racks();
     unequal_disks();
+    entries();
+    plan_after_texts();
+    marks();
+    longest_text();
     writing();
     reading();
     judging();

@@ -43,6 +43,13 @@ VARIED = (b"(rack 3 2 65535)\n(disk 1 (65535 65534) (1 1))\n(disk 2)\n(disk 3 (1
           b"(left (1 1000000) (100 10) (65535 999999))\n(served 65625 2000009)\n")
 # A large disk and a small one; and disks of three sizes, two of them equal.
 UNEQUAL = b"(mixed (4 8) (2 4))\n(disk 1 (2 3) (3 5))\n(disk 2 (1 3) (2 1))\n(left)\n(served 12 0)\n"
+# Marked copies, with viewers and without.
+HELD = b"""(rack 2 2 5)
+(disk 1 (8 1 held) (65535 4))
+(disk 2 (8 0) (3 0 held))
+(left (8 2))
+(served 5 2)
+"""
 SIZES = (b"(mixed (10 25) (2 5) (32 80) (2 5))\n(disk 1 (7 0) (65535 25))\n(disk 2 (1 5))\n(disk 3)\n(disk 4 (1 4) (9 1))\n"
          b"(left (1 1000000) (3 0))\n(served 35 1000000)\n")
 
@@ -98,8 +105,15 @@ def text_of_disks(rack, copies, left):
     return b"(mixed" + pairs(rack).encode() + b")\n" + rest
 
 
+def all_held(text):
+    """The text with a mark at each copy of its disks."""
+    lines = text.split(b"\n")
+    marked = [re.sub(rb"(\([0-9]+ [0-9]+)\)", rb"\1 held)", line) if line.startswith(b"(disk ") else line for line in lines]
+    return b"\n".join(marked)
+
+
 def largest_unequal():
-    """The longest text of a well-formed plan: 44,565 bytes."""
+    """The longest text of a well-formed plan without marks: 44,565 bytes."""
     # Some disk has fewer than 32 slots, since the disks differ with one ratio.
     rack = [(32, 65504)] * 63 + [(31, 63457)]
     viewers = [10000] * 3 + [1000] * 29
@@ -108,7 +122,7 @@ def largest_unequal():
 
 
 def largest():
-    """The longest text of a well-formed plan of equal disks: 43,885 bytes."""
+    """The longest text of a well-formed plan of equal disks without marks: 43,885 bytes."""
     # 32 viewers of most digits whose sum is at most 65,535: three of five digits, the others of four.
     viewers = [16535, 10000, 10000] + [1000] * 29
     copies = {d: list(zip(range(65535 - 31, 65536), viewers)) for d in range(1, 65)}
@@ -251,7 +265,43 @@ def lines_file():
                         ("one_line", SMALL.replace(b"\n", b" ")), ("wide", SMALL.decode().encode("utf-16-le"))):
         c.add(label, text)
     c.add("shelf", SHELF)
+    held_lines(c)
     c.write("lines")
+
+
+# ---- marked copies ----
+
+# A disk's copies, of two slots and load 5: those that are accepted with marks, and those with a mark in another form or place.
+HELD_COPIES = (("alone", "(8 1 held)"), ("shelf", "(8 0 held)"), ("last_film", "(65535 5 held)"), ("first", "(8 1 held) (9 1)"),
+               ("last", "(8 1) (9 1 held)"), ("both", "(8 1 held) (9 4 held)"), ("no_space", "(8 1held)"),
+               ("two_spaces", "(8 1  held)"), ("tab", "(8 1\theld)"), ("space_behind", "(8 1 held )"), ("space_alone", "(8 1 )"),
+               ("letter_fewer", "(8 1 hel)"), ("letter_more", "(8 1 heldd)"), ("capital", "(8 1 Held)"), ("capitals", "(8 1 HELD)"),
+               ("other_word", "(8 1 hold)"), ("one", "(8 1 1)"), ("zero", "(8 1 0)"), ("twice", "(8 1 held held)"),
+               ("before_viewers", "(8 held 1)"), ("before_film", "(held 8 1)"), ("for_viewers", "(8 held)"),
+               ("outside", "(8 1) held"), ("before", "held (8 1)"), ("no_close", "(8 1 held"), ("no_gap", "(8 1 held)(9 1)"),
+               ("film_0", "(0 1 held)"), ("film_65536", "(65536 1 held)"), ("film_65544", "(65544 1)"),
+               ("film_65544_held", "(65544 1 held)"), ("load_exceeded", "(8 6 held)"), ("film_twice", "(8 1 held) (8 1)"),
+               ("film_twice_held", "(8 1) (8 1 held)"), ("one_too_many", "(8 1 held) (9 0 held) (10 0 held)"))
+
+
+def held_lines(c):
+    """Marks in every form and place: on a disk's copies, and on what has none."""
+    c.add("held", HELD)
+    for label, copies in HELD_COPIES:
+        served = sum(int(v) for v in re.findall(r"\([0-9]+ ([0-9]+)", copies))
+        text = text_of(1, 2, 5, {}, [(2, 1)], served=served)
+        c.add("held_" + label, text.replace(b"(disk 1)", b"(disk 1 %s)" % copies.encode()))
+    lines = HELD.split(b"\n")[:-1]
+    for label, n, other in (("rack", 1, b"(rack 2 2 5 held)"), ("disk_number", 3, b"(disk 2 held (8 0) (3 0 held))"),
+                            ("left_film", 4, b"(left (8 2 held))"), ("left_alone", 4, b"(left held)"),
+                            ("left_line", 4, b"(left (8 2) held)"), ("served", 5, b"(served 5 2 held)")):
+        c.add("held_on_" + label, joined(lines[:n - 1] + [other] + lines[n:]))
+    for n, line in enumerate((b"(mixed (4 8 held) (2 4))\n", b"(mixed (4 8) (2 4 held))\n"), 1):
+        c.add("held_on_mixed_%d" % n, line + UNEQUAL.split(b"\n", 1)[1])
+    for label, other in damages(lines[1]):
+        # What stands before the first mark is damaged in lines without marks.
+        if other.startswith(b"(disk 1 (8 1"):
+            c.add("held_2_disk_" + label, joined([lines[0], other] + lines[2:]))
 
 
 # ---- copies with 0 viewers and left films with amount 0 ----
@@ -422,6 +472,11 @@ def lending_file():
                 continue
             for size in sorted(set(x for x in sizes if x >= 0)):
                 c.add("%s_%s_%d" % (name, table, size), text, what=what, value=size)
+    text = all_held(largest())
+    assert len(text) == 54125
+    c.add("largest_held", text)
+    c.add("largest_held_unended", text, len(text) - 1)
+    c.add("largest_held_copies_2047", text, what=LEND_COPIES, value=2047)
     for table, what in (("copies", LEND_COPIES), ("counts", LEND_COUNTS), ("left", LEND_LEFT)):
         c.add("nine_before_seven_%s" % table, SMALL.replace(b"served 4", b"served 5"), what=what, value=0)
         c.add("eight_before_seven_%s" % table, SMALL, 65537, 10, what=what, value=0)
@@ -494,6 +549,12 @@ def racks_file():
         c.add("largest_unequal_rack_%d" % size, text, what=LEND_RACK, value=size)
     for size in (2046, 2047):
         c.add("largest_unequal_copies_%d" % size, text, what=LEND_COPIES, value=size)
+    text = all_held(largest_unequal())
+    assert len(text) == 54800
+    c.add("largest_unequal_held", text)
+    for total in (54801, 65536, 65537):
+        c.add("largest_unequal_held_and_spaces_%d" % total, text, total, 32)
+    c.add("largest_unequal_held_last_mark", text, what=SET_BYTE, place=text.rindex(b"held") + 3, value=ord("e"))
     for total in (65536, 65537):
         c.add("mixed_of_digits_%d" % total, b"(mixed (", total, 57)
         c.add("mixed_of_opens_%d" % total, b"(mixed ", total, 40)
@@ -539,6 +600,22 @@ def unequal_writing(c, sets):
     c.add("largest_unequal", text)
     for size in (44564, 44565):
         c.add("largest_unequal_lent_space_%d" % size, text, what=LEND_SPACE, value=size)
+
+
+def held_writing(c, sets):
+    """Calls of writing with marks. What is set as a film is the low half of an entry, so that 65,544 is film 8 with mark 1."""
+    c.add("held", HELD)
+    mark = 2 ** 16
+    sets("held", HELD, SET_FILM, "film", 0, (8, mark, mark + 7, mark + 8, 2 * mark + 8, 2 ** 31 + 8, 2 ** 32 - 1))
+    sets("held", HELD, SET_FILM, "film", 1, (8, mark + 8, mark + 9, 2 * mark - 1, 2 * mark + 9))
+    sets("held", HELD, SET_FILM, "film", 3, (3, mark + 65535, 3 * mark + 3))
+    sets("held", HELD, SET_VIEWERS, "viewers", 3, (5, 6))
+    sets("held", HELD, SET_COUNT, "count", 1, (1,))
+    sets("held", HELD, SET_LEFT_FILM, "left_film", 0, (mark + 8, 2 ** 31 + 8))
+    for size in (len(HELD) - 5, len(HELD) - 1, len(HELD)):
+        c.add("held_lent_space_%d" % size, HELD, what=LEND_SPACE, value=size)
+    # Place 1 is not used.
+    sets("small", SMALL, SET_FILM, "low_half", 1, (mark, 2 * mark, 2 ** 31))
 
 
 def writing_file():
@@ -599,6 +676,7 @@ def writing_file():
     sets("shelf", SHELF, SET_LEFT_AMOUNT, "left_amount", 0, (1000000, 1000001))
     sets("shelf", SHELF, SET_LEFT_FILM, "left_film", 2, (0, 8))
     sets("shelf", SHELF, SET_LEFT, "left", 0, (2,))
+    held_writing(c, sets)
     unequal_writing(c, sets)
     c.write("writing")
 

@@ -21,15 +21,17 @@ UNUSED_ENTRY = (UNUSED, UNUSED)
 
 NUMBER = rb"(0|[1-9][0-9]*)"
 RACK_LINE = re.compile(rb"\(rack " + NUMBER + rb" " + NUMBER + rb" " + NUMBER + rb"\)")
-PAIR = rb" \((?:0|[1-9][0-9]*) (?:0|[1-9][0-9]*)\)"
+DIGITS = rb"(?:0|[1-9][0-9]*)"
+PAIR = rb" \(" + DIGITS + rb" " + DIGITS + rb"\)"
+COPY = rb" \(" + DIGITS + rb" " + DIGITS + rb"(?: held)?\)"
 MIXED_LINE = re.compile(rb"\(mixed((?:" + PAIR + rb")*)\)")
-DISK_LINE = re.compile(rb"\(disk " + NUMBER + rb"((?:" + PAIR + rb")*)\)")
+DISK_LINE = re.compile(rb"\(disk " + NUMBER + rb"((?:" + COPY + rb")*)\)")
 LEFT_LINE = re.compile(rb"\(left((?:" + PAIR + rb")*)\)")
 SERVED_LINE = re.compile(rb"\(served " + NUMBER + rb" " + NUMBER + rb"\)")
 
 
-# ---- document 01 and 02's requests P1 and P2: well-formed plans, writing, reading ----
-# A rack is a list of disks by number, each its slots and its streams.
+# ---- document 01 and 02's requests P1, P2 and P4: well-formed plans, writing, reading ----
+# A rack is a list of disks by number, each its slots and its streams. A copy is its film, its viewers and its mark.
 
 def disks_ok(rack):
     return 1 <= len(rack) <= 64 and all(1 <= slots <= 32 and 1 <= streams <= 65535 for slots, streams in rack)
@@ -54,9 +56,13 @@ def film_ok(film):
 
 
 def copies_ok(slots, streams, copies):
-    films = [f for f, _ in copies]
+    films = [f for f, _, _ in copies]
     return (len(copies) <= slots and len(set(films)) == len(films) and all(film_ok(f) for f in films)
-            and sum(v for _, v in copies) <= streams)
+            and viewers(copies) <= streams and all(mark in (0, 1) for _, _, mark in copies))
+
+
+def viewers(copies):
+    return sum(v for _, v, _ in copies)
 
 
 def left_ok(left):
@@ -68,16 +74,24 @@ def left_ok(left):
 def render(rack, copies, left):
     def pairs(entries):
         return "".join(" (%d %d)" % p for p in entries)
+
+    def marked(disk):
+        return "".join(" (%d %d%s)" % (f, v, " held" if mark else "") for f, v, mark in disk)
     lines = ["(rack %d %d %d)" % (len(rack), *rack[0]) if is_equal(rack) else "(mixed%s)" % pairs(rack)]
-    lines += ["(disk %d%s)" % (d, pairs(c)) for d, c in enumerate(copies, 1)]
+    lines += ["(disk %d%s)" % (d, marked(c)) for d, c in enumerate(copies, 1)]
     lines += ["(left%s)" % pairs(left)]
-    lines += ["(served %d %d)" % (sum(v for c in copies for _, v in c), sum(a for _, a in left))]
+    lines += ["(served %d %d)" % (sum(viewers(c) for c in copies), sum(a for _, a in left))]
     return "".join(line + "\n" for line in lines).encode()
 
 
 def pairs_of(body):
     numbers = [int(n) for n in re.findall(rb"[0-9]+", body)]
     return list(zip(numbers[0::2], numbers[1::2]))
+
+
+def copies_of(body):
+    copies = re.findall(rb"\(([0-9]+) ([0-9]+)( held)?\)", body)
+    return [(int(film), int(number), 1 if mark else 0) for film, number, mark in copies]
 
 
 def rack_of(line):
@@ -107,9 +121,9 @@ def read_text(text):
     copies = []
     for d, (slots, streams) in enumerate(rack, 1):
         m = DISK_LINE.fullmatch(ended[d]) if d < len(ended) else None
-        if not m or int(m.group(1)) != d or not copies_ok(slots, streams, pairs_of(m.group(2))):
+        if not m or int(m.group(1)) != d or not copies_ok(slots, streams, copies_of(m.group(2))):
             return ("refused", 9, d + 1)
-        copies.append(pairs_of(m.group(2)))
+        copies.append(copies_of(m.group(2)))
     at = disks + 1
     m = LEFT_LINE.fullmatch(ended[at]) if at < len(ended) else None
     if not m or not left_ok(pairs_of(m.group(1))):
@@ -117,13 +131,23 @@ def read_text(text):
     left = pairs_of(m.group(1))
     at += 1
     m = SERVED_LINE.fullmatch(ended[at]) if at < len(ended) else None
-    served, unserved = sum(v for c in copies for _, v in c), sum(a for _, a in left)
+    served, unserved = sum(viewers(c) for c in copies), sum(a for _, a in left)
     if not m or (int(m.group(1)), int(m.group(2))) != (served, unserved):
         return ("refused", 9, at + 1)
     if len(ended) > at + 1 or rest:
         return ("refused", 9, at + 2)
     assert render(rack, copies, left) == text
     return ("plan", rack, copies, left, served, unserved)
+
+
+def halves(copy):
+    """An entry of the copy table: the mark stands above the 16 bits of the film, and both are its first number."""
+    film, number, mark = copy
+    return (film + (mark << 16), number)
+
+
+def copy_in(entry):
+    return (entry[0] & 0xffff, entry[1], entry[0] >> 16)
 
 
 def fresh_tables():
@@ -139,7 +163,8 @@ def store(tables, plan):
     """The lent rack and the tables after reading a plan."""
     rack, copies, left = plan[1:4]
     tables[0][:len(rack)] = rack
-    tables[1][:all_slots(rack)] = [p for c, (slots, _) in zip(copies, rack) for p in c + [(0, 0)] * (slots - len(c))]
+    tables[1][:all_slots(rack)] = [p for c, (slots, _) in zip(copies, rack)
+                                   for p in [halves(x) for x in c] + [(0, 0)] * (slots - len(c))]
     tables[2][:len(rack)] = [len(c) for c in copies]
     tables[3][:len(left)] = left
 
@@ -157,7 +182,7 @@ def write_tables(rack, tables, left, space):
     for d, (slots, streams) in enumerate(rack):
         first = all_slots(rack[:d])
         here = entries[first:first + slots]
-        used = here[:counts[d]]
+        used = [copy_in(entry) for entry in here[:counts[d]]]
         if counts[d] > slots or not copies_ok(slots, streams, used) or any(p != (0, 0) for p in here[counts[d]:]):
             return (10,)
         copies.append(used)
@@ -208,8 +233,8 @@ def table_digest(plan):
 
 
 def set_place(tables, what, place, value):
-    """A film or its number set in the copy table (1, 2) or the left table (4, 5), a count set (3), or slots or streams of the
-    rack (7, 8)."""
+    """A film, with its mark in the copy table, or its number set in the copy table (1, 2) or the left table (4, 5), a count set
+    (3), or slots or streams of the rack (7, 8)."""
     table = tables[{1: 1, 2: 1, 3: 2, 4: 3, 5: 3, 7: 0, 8: 0}[what]]
     if place < len(table):
         if what == 3:

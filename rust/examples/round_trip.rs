@@ -1,5 +1,5 @@
-//! Plans a small list on a large and a small disk, writes the plan's text and reads it back into
-//! another rack and other tables.
+//! Plans a small list on a large and a small disk, writes the plan's text, reads it back into another
+//! rack and other tables, and plans the list of the week after, with marks by that text.
 
 use std::error::Error;
 
@@ -33,6 +33,14 @@ fn main() -> Result<(), Box<dyn Error>> {
         read.served,
         read.served + read.unserved
     );
+
+    // The week after has film 4 in the place of film 2. What the disks hold by now is marked.
+    let next = records(&[(1, 3), (4, 4), (3, 5)]);
+    wrap::plan_after(&rack, &next, &text, planned_tables.lend()).accepted()?;
+    let all: u32 = planned_tables.counts.iter().sum();
+    let copies = planned_tables.copies.iter();
+    let held = copies.filter(|copy| copy.mark() == 1).count();
+    println!("{held} of {all} copies need not be copied");
 
     // A refusal is an error in words, and `?` would hand it on: film 3 stands in this list twice.
     let twice = records(&[(3, 4), (3, 4)]);

@@ -52,6 +52,21 @@ extern "C" {
         left_count: usize,
     ) -> Planned;
 
+    pub(crate) fn jugfjord_plan_after(
+        rack: *const Disk,
+        rack_count: usize,
+        list: *const u8,
+        list_count: usize,
+        earlier: *const u8,
+        earlier_count: usize,
+        copies: *mut Entry,
+        copies_count: usize,
+        counts: *mut u32,
+        counts_count: usize,
+        left: *mut Entry,
+        left_count: usize,
+    ) -> Planned;
+
     pub(crate) fn jugfjord_write(
         rack: *const Disk,
         rack_count: usize,

@@ -4,22 +4,42 @@ use std::fmt;
 
 use crate::rack::{disks_in_range, places, Disk, Rack, MOST_RECORDS};
 
-/// An entry of the copy table or of the left table: one number, the film in its low 32 bits
-/// and the viewers or the amount in its high 32 bits. So entries sort by amount, then by film.
-/// The default is that of an unused place.
+/// An entry of the copy table or of the left table: one number, the film in its low 16 bits, in the
+/// copy table the mark in the 16 bits above them, and the viewers or the amount in its high 32 bits.
+/// So entries without marks sort by amount, then by film. The default is that of an unused place.
 #[repr(transparent)]
 #[derive(Clone, Copy, Default, PartialEq, Eq, PartialOrd, Ord)]
 pub struct Entry(u64);
 
 impl Entry {
+    /// The entry of a film with its viewers or its amount, without a mark. What a film above 65,535
+    /// has beyond 16 bits stands where a copy has its mark.
     pub fn new(film: u32, amount: u32) -> Self {
         Entry(u64::from(amount) << 32 | u64::from(film))
     }
 
+    /// The film of a copy or a left film.
     pub fn film(self) -> u32 {
+        self.unmarked_film() & 0xffff
+    }
+
+    /// The film of an entry that has no mark, such as a left film: all of the low 32 bits. It is
+    /// above 65,535 where they hold more than a film.
+    pub fn unmarked_film(self) -> u32 {
         self.0 as u32
     }
 
+    /// The mark of a copy: 1 where its disk held the film before, else 0. Other marks are refused.
+    pub fn mark(self) -> u32 {
+        self.unmarked_film() >> 16
+    }
+
+    /// The entry of a copy with this mark instead of its own.
+    pub fn with_mark(self, mark: u16) -> Self {
+        Entry::new(self.film() | u32::from(mark) << 16, self.amount())
+    }
+
+    /// The viewers of a copy or the amount of a left film.
     pub fn amount(self) -> u32 {
         (self.0 >> 32) as u32
     }
@@ -27,7 +47,11 @@ impl Entry {
 
 impl fmt::Debug for Entry {
     fn fmt(&self, out: &mut fmt::Formatter) -> fmt::Result {
-        write!(out, "({} {})", self.film(), self.amount())
+        let (film, amount) = (self.film(), self.amount());
+        match self.mark() {
+            0 => write!(out, "({film} {amount})"),
+            mark => write!(out, "({film} {amount} mark {mark})"),
+        }
     }
 }
 

@@ -40,6 +40,23 @@ pub fn plan(rack: &[Disk], list: &[u8], tables: LentTables) -> Planned {
     }
 }
 
+/// Plans a demand list into the tables, and marks each copy whose film the same disk held in the
+/// plan of an earlier text. A refusal leaves the tables as they were.
+pub fn plan_after(rack: &[Disk], list: &[u8], earlier: &[u8], tables: LentTables) -> Planned {
+    let (disks, disk_count) = (rack.as_ptr(), rack.len());
+    let (bytes, count) = (list.as_ptr(), list.len());
+    let (text, text_count) = (earlier.as_ptr(), earlier.len());
+    // SAFETY: as in `plan`. The library only reads the rack, the list and the text.
+    unsafe {
+        call!(
+            jugfjord_plan_after,
+            (disks, disk_count, bytes, count, text, text_count),
+            tables.as_mut_ptr,
+            ()
+        )
+    }
+}
+
 /// Writes the text of the plan that the tables hold, with so many left films.
 /// Bytes after the plan's text stay as they were. A refusal leaves all bytes so.
 pub fn write(rack: &[Disk], tables: TablesView, left_films: u32, text: &mut [u8]) -> Written {

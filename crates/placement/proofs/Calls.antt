@@ -1,5 +1,5 @@
 -- All that holds of a call that planning does not refuse: its plan is well formed, and its numbers are bounded.
-use mathlib.Core.Path.{_≡_}
+use mathlib.Core.Path.{_≡_, sym, ap, _∙_}
 use mathlib.Core.Bool.{true}
 use mathlib.Core.List.{List, [], _∷_}
 use Prim.Native.Nat.{_*_, _≤_}
@@ -8,21 +8,22 @@ use lib.ListN.{length}
 use Rattle.refusal.specs.Verdict.{Verdict, given}
 use Rattle.refusal.proofs.Verdicts.{unless-given}
 use Rattle.placement.specs.Items.{Item, amountOf, total, listOf}
+use Rattle.placement.specs.Copies.{layoutOf}
 use Rattle.placement.specs.Rack.{rackAccepted, mostRecords, mostDemand}
 use Rattle.placement.specs.Records.{recordCount, shapeJudged, recordsJudged}
 use Rattle.placement.specs.FillingOrder.{filling}
 use Rattle.placement.specs.Tables.{Tables, roomFor}
-use Rattle.placement.specs.Plan.{disksAccepted, leftAccepted, servedOf, unservedOf}
-use Rattle.placement.specs.Planning.{Call, recordsIn, leftIn, planIn, roomJudged, verdict}
+use Rattle.placement.specs.Plan.{disksAccepted, leftAccepted, wellFormed, servedOf, unservedOf}
+use Rattle.placement.specs.Planning.{Call, recordsIn, layoutIn, leftIn, planAfter, planIn, roomJudged, verdict}
 use Rattle.placement.specs.WellFormed.{Each, Demanded, RecordsAccepted, Entry, Bounded, CallWellFormed}
-use Rattle.placement.proofs.Conjunctions.{and-holds}
 use Rattle.placement.proofs.Chains.{rack-given}
 use Rattle.placement.proofs.Racks.{accepted-allLoads}
 use Rattle.placement.proofs.Films.{Usable}
 use Rattle.placement.proofs.BestSharing.{plan-total}
 use Rattle.placement.proofs.Each.{each-map, each-byFilm}
 use Rattle.placement.proofs.Records.{records-length, shape-given, records-accepted}
-use Rattle.placement.proofs.Formed.{disks-served, left-accepted}
+use Rattle.placement.proofs.Formed.{disks-served, left-accepted, plan-rack, plan-disks, plan-left, plan-formed}
+use Rattle.placement.proofs.MarkedCopies.{marked-layout, marked-accepted}
 use Rattle.placement.proofs.ByFilm.{sumBy-byFilm, byFilm-length, byFilm-ascending}
 use Rattle.placement.proofs.WellFormed.{accepted-usable, listOf-entries, placement-windows}
 use Rattle.placement.proofs.ShelfPlan.{copies-accepted, left-distinct, left-few, left-entries, left-total}
@@ -52,7 +53,7 @@ accepted-wellFormed c rack few accepted = record {
   rack = rack;
   recordsMost = few;
   accepted = accepted;
-  plan = and-holds (rackAccepted (c .rack)) _ rack (and-holds (disksAccepted (c .rack) (planIn c .copies)) _ disks left);
+  plan = plan-formed (planIn c) rack disks (marked-accepted [] (layoutIn c)) left;
   leftMost = count;
   bounds = bounds;
   servedMost = omega (arith, bounds .served, accepted-allLoads (c .rack) rack);
@@ -63,8 +64,8 @@ accepted-wellFormed c rack few accepted = record {
     usable : Usable (filling (c .rack))
     usable = accepted-usable (c .rack) rack
 
-    disks : disksAccepted (c .rack) (planIn c .copies) ≡ true
-    disks = copies-accepted (c .rack) (recordsIn c) usable accepted
+    disks : disksAccepted (c .rack) (layoutOf (planIn c .copies)) ≡ true
+    disks = ap (disksAccepted (c .rack)) (marked-layout [] (layoutIn c)) ∙ copies-accepted (c .rack) (recordsIn c) usable accepted
 
     count : length (planIn c .left) ≤ recordCount (c .list)
     count = omega (arith, left-few (c .rack) (recordsIn c) usable accepted, byFilm-length (leftIn c), records-length (c .list))
@@ -81,7 +82,7 @@ accepted-wellFormed c rack few accepted = record {
 
     bounds : Bounded (c .rack) (recordsIn c) (servedOf (planIn c)) (unservedOf (planIn c))
     bounds = record {
-      served = disks-served (c .rack) (planIn c .copies) disks;
+      served = disks-served (c .rack) (layoutOf (planIn c .copies)) disks;
       unserved =
           omega (
             arith,
@@ -101,3 +102,11 @@ pub call-wellFormed : (c : Call) (t : Tables) → verdict c t ≡ given tt → C
 call-wellFormed c t e =
     let judged = call-judged c t e in
     accepted-wellFormed c (judged .0) (judged .1) (judged .3)
+
+-- Its plan after an earlier one is well formed too.
+pub after-wellFormed : (c : Call) (earlier : List (List Item)) → CallWellFormed c → wellFormed (planAfter earlier c) ≡ true
+after-wellFormed c earlier formed =
+    plan-formed (planAfter earlier c) (plan-rack (planIn c) (formed .plan))
+    (ap (disksAccepted (c .rack)) (marked-layout earlier (layoutIn c) ∙ sym (marked-layout [] (layoutIn c)))
+    ∙ plan-disks (planIn c) (formed .plan))
+    (marked-accepted earlier (layoutIn c)) (plan-left (planIn c) (formed .plan))

@@ -1,20 +1,22 @@
 -- A rack of equal disks is filled in the order of numbers, so that it has the plan that document 01 gives it.
-use mathlib.Core.Path.{_≡_, refl, ap, ap₂, _∙_}
-use mathlib.Core.List.{List, [], _∷_, _++_, map}
+use mathlib.Core.Path.{_≡_, refl, sym, ap, ap₂, _∙_}
+use mathlib.Core.List.{List, [], _∷_, _++_}
 use Prim.Native.Nat.{ℕ, zero, suc}
 use native.Mathlib.Omega.{arith}
 use borrow.Author.Tests.{le-leb}
 use lib.ListN.{length}
 use Rattle.placement.specs.Items.{Item, listOf, byFilm}
+use Rattle.placement.specs.Copies.{marked}
 use Rattle.placement.specs.Rack.{Disk, disk, rackOf}
-use Rattle.placement.specs.Records.{recordCount, recordsOf}
+use Rattle.placement.specs.Records.{recordsOf}
 use Rattle.placement.specs.Method.{placement, remaining, served, unserved}
 use Rattle.placement.specs.FillingOrder.{insertAt, fillingPlace, filling, byNumber, placed}
 use Rattle.placement.specs.Shelf.{shelfFilms, shelved, unshelved}
-use Rattle.placement.specs.Tables.{Tables, entryOf, padded, holding}
-use Rattle.placement.specs.Plan.{Plan}
-use Rattle.placement.specs.Planning.{call, sums, sumsIn, planIn, holdingCall}
+use Rattle.placement.specs.Tables.{Tables}
+use Rattle.placement.specs.Plan.{Plan, servedOf}
+use Rattle.placement.specs.Planning.{Call, call, sums, sumsIn, layoutIn, planIn, holdingFor, holdingCall}
 use Rattle.placement.specs.EqualPlan.{equalPlan}
+use Rattle.placement.proofs.MarkedCopies.{marked-layout}
 use Rattle.placement.proofs.Racks.{rack-length}
 use Rattle.placement.proofs.NumberOrder.{placement-length}
 
@@ -54,7 +56,7 @@ module _ (k l : ℕ) where
       planWith : List (List Item) → List Item → Plan
       planWith layout rest = record {
         rack = rackOf n k l;
-        copies = shelved (rackOf n k l) (shelfFilms (recordsOf bytes)) layout;
+        copies = marked [] (shelved (rackOf n k l) (shelfFilms (recordsOf bytes)) layout);
         left = byFilm (unshelved (rackOf n k l) (shelfFilms (recordsOf bytes)) layout ++ rest);
       }
 
@@ -66,13 +68,15 @@ module _ (k l : ℕ) where
   pub equal-sums :
       (n : ℕ) (bytes : List ℕ)
       → sumsIn (call (rackOf n k l) bytes)
-      ≡ sums (served (equalPlan n k l bytes .copies)) (unserved (rackOf n k l) (listOf (recordsOf bytes))) (length (equalPlan n k l bytes .left))
+      ≡ sums (servedOf (equalPlan n k l bytes)) (unserved (rackOf n k l) (listOf (recordsOf bytes))) (length (equalPlan n k l bytes .left))
   equal-sums n bytes =
-      ap₂ (λ (p : Plan) (u : ℕ). sums (served (p .copies)) u (length (p .left))) (equal-plan n bytes) (equal-unserved n (listOf (recordsOf bytes)))
+      ap (λ (layout : List (List Item)). sums (served layout) (sumsIn c .unserved) (sumsIn c .left)) (sym (marked-layout [] (layoutIn c)))
+      ∙ ap₂ (λ (p : Plan) (u : ℕ). sums (servedOf p) u (length (p .left))) (equal-plan n bytes) (equal-unserved n (listOf (recordsOf bytes)))
+    where
+      c : Call
+      c = call (rackOf n k l) bytes
 
   pub equal-tables :
       (n : ℕ) (bytes : List ℕ) (t : Tables)
-      → holdingCall (call (rackOf n k l) bytes) t
-      ≡ holding (rackOf n k l) (equalPlan n k l bytes .copies) (padded (recordCount bytes) (map entryOf (equalPlan n k l bytes .left))) t
-  equal-tables n bytes t =
-      ap (λ (p : Plan). holding (rackOf n k l) (p .copies) (padded (recordCount bytes) (map entryOf (p .left))) t) (equal-plan n bytes)
+      → holdingCall (call (rackOf n k l) bytes) t ≡ holdingFor (call (rackOf n k l) bytes) (equalPlan n k l bytes) t
+  equal-tables n bytes t = ap (λ (p : Plan). holdingFor (call (rackOf n k l) bytes) p t) (equal-plan n bytes)

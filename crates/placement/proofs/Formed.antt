@@ -1,16 +1,17 @@
 -- Well-formed plans: what the test says of the rack, of each disk's copies and of what is left, and which of them pass it.
-use mathlib.Core.Path.{_≡_, refl, ap}
+use mathlib.Core.Path.{_≡_, refl, sym, ap, _∙_}
 use mathlib.Core.Bool.{true, _&&_}
-use mathlib.Core.List.{List, [], _∷_}
+use mathlib.Core.List.{List, [], _∷_, map}
 use Prim.Native.Nat.{ℕ, zero, suc, _≤_, _<_}
 use native.Mathlib.Omega.{arith}
 use borrow.Author.Tests.{leb-true, le-leb}
 use lib.Dec.{leb}
-use lib.ListN.{length, getD}
+use lib.ListN.{length, getD, length-map}
 use Rattle.placement.specs.Items.{Item, total}
+use Rattle.placement.specs.Copies.{unmarked, layoutOf}
 use Rattle.placement.specs.Rack.{Disk, allLoads, rackAccepted, inRange, mostPlanFilm, mostDemand}
 use Rattle.placement.specs.Method.{served}
-use Rattle.placement.specs.Plan.{Plan, mostLeft, every, distinctFilms, copyAccepted, diskAccepted, disksAccepted, ascendingAbove, leftFilmAccepted, leftAccepted, wellFormed, servedOf}
+use Rattle.placement.specs.Plan.{Plan, mostLeft, every, distinctFilms, copyAccepted, diskAccepted, disksAccepted, allMarksAccepted, ascendingAbove, leftFilmAccepted, leftAccepted, wellFormed, servedOf}
 use Rattle.placement.specs.Promise.{Distinct}
 use Rattle.placement.specs.WellFormed.{Each, Entry}
 use Rattle.placement.proofs.Conjunctions.{both-true, and-holds, false-true}
@@ -128,15 +129,31 @@ module _ (p : Plan) (e : wellFormed p ≡ true) where
   pub plan-rack : rackAccepted (p .rack) ≡ true
   plan-rack = both-true (rackAccepted (p .rack)) _ e .0
 
-  pub plan-disks : disksAccepted (p .rack) (p .copies) ≡ true
-  plan-disks = both-true (disksAccepted (p .rack) (p .copies)) _ (both-true (rackAccepted (p .rack)) _ e .1) .0
+  pub plan-disks : disksAccepted (p .rack) (layoutOf (p .copies)) ≡ true
+  plan-disks = both-true (disksAccepted (p .rack) (layoutOf (p .copies))) _ (both-true (rackAccepted (p .rack)) _ e .1) .0
+
+  behind : (allMarksAccepted (p .copies) ≡ true) × (leftAccepted (p .left) ≡ true)
+  behind =
+      both-true (allMarksAccepted (p .copies)) (leftAccepted (p .left))
+      (both-true (disksAccepted (p .rack) (layoutOf (p .copies))) _ (both-true (rackAccepted (p .rack)) _ e .1) .1)
+
+  pub plan-marks : allMarksAccepted (p .copies) ≡ true
+  plan-marks = behind .0
 
   pub plan-left : leftAccepted (p .left) ≡ true
-  plan-left = both-true (disksAccepted (p .rack) (p .copies)) _ (both-true (rackAccepted (p .rack)) _ e .1) .1
+  plan-left = behind .1
 
   -- The number of lists of copies, and S.
   pub plan-lists : length (p .copies) ≡ length (p .rack)
-  plan-lists = disks-length (p .rack) (p .copies) plan-disks
+  plan-lists = sym (length-map (p .copies) (map unmarked)) ∙ disks-length (p .rack) (layoutOf (p .copies)) plan-disks
 
   pub plan-served : servedOf p ≤ allLoads (p .rack)
-  plan-served = disks-served (p .rack) (p .copies) plan-disks
+  plan-served = disks-served (p .rack) (layoutOf (p .copies)) plan-disks
+
+-- A plan whose parts pass is well formed.
+pub plan-formed :
+    (p : Plan) → rackAccepted (p .rack) ≡ true → disksAccepted (p .rack) (layoutOf (p .copies)) ≡ true → allMarksAccepted (p .copies) ≡ true
+    → leftAccepted (p .left) ≡ true → wellFormed p ≡ true
+plan-formed p rack disks marks left =
+    and-holds (rackAccepted (p .rack)) _ rack
+    (and-holds (disksAccepted (p .rack) (layoutOf (p .copies))) _ disks (and-holds (allMarksAccepted (p .copies)) _ marks left))

@@ -45,6 +45,7 @@ pub mod Written
 pub mod Every
 pub mod Shelving
 pub mod Formed
+pub mod MarkedCopies
 pub mod OwnTables
 pub mod ReadBack
 pub mod Entries

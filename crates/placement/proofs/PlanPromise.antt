@@ -7,6 +7,7 @@ use lib.ListN.{length}
 use Rattle.refusal.specs.Verdict.{Verdict, given, refused, Numbers}
 use Rattle.refusal.proofs.Verdicts.{Numbered, unless-numbered}
 use Rattle.placement.specs.Items.{Item, amountOf, total, amountFor, listOf}
+use Rattle.placement.specs.Copies.{layoutOf}
 use Rattle.placement.specs.Rack.{leastSlots}
 use Rattle.placement.specs.Method.{served, unserved}
 use Rattle.placement.specs.FillingOrder.{filling}
@@ -15,7 +16,7 @@ use Rattle.placement.specs.Records.{recordCount}
 use Rattle.placement.specs.Tables.{Tables, roomFor}
 use Rattle.placement.specs.Held.{copiesHeld, leftHeld, planHeld}
 use Rattle.placement.specs.Plan.{Plan}
-use Rattle.placement.specs.Planning.{Call, PlanSums, planning, tablesAfter, answerFor, tablesFor, holdingCall, verdict, recordsIn, placedIn, leftIn, planIn}
+use Rattle.placement.specs.Planning.{Call, PlanSums, planning, tablesAfter, answerFor, tablesFor, holdingCall, verdict, recordsIn, placedIn, layoutIn, leftIn, planIn}
 use Rattle.placement.specs.Promise.{Distinct, Demand3}
 use Rattle.placement.specs.ShelfPromise.{ShelfPromise}
 use Rattle.placement.specs.WellFormed.{CallWellFormed}
@@ -33,10 +34,11 @@ use Rattle.placement.proofs.ShelfPlan.{left-total}
 use Rattle.placement.proofs.ShelfPromise.{shelf-promise}
 use Rattle.placement.proofs.Records.{shape-numbered, records-numbered}
 use Rattle.placement.proofs.Calls.{call-wellFormed}
+use Rattle.placement.proofs.MarkedCopies.{marked-layout}
 use Rattle.placement.proofs.ReadBack.{padded-held}
 
 -- Planning's refusals are numbered.
-verdict-numbered : (c : Call) (t : Tables) → Numbered (verdict c t)
+pub verdict-numbered : (c : Call) (t : Tables) → Numbered (verdict c t)
 verdict-numbered c t =
     rack-numbered (c .rack) _
     (shape-numbered (c .list) _
@@ -48,27 +50,27 @@ abbrev Kept : Call → Tables → Tables → Numbers PlanSums → Type 0
 Kept c entry exit answer =
     (1 ≤ answer .refusal → exit ≡ entry)
     × (answer .refusal ≡ 0
-    → Demand3 (leastSlots (c .rack)) (c .rack) (recordsIn c) (copiesHeld (c .rack) exit) (answer .values .served)
+    → Demand3 (leastSlots (c .rack)) (c .rack) (recordsIn c) (layoutOf (copiesHeld (c .rack) exit)) (answer .values .served)
     (answer .values .unserved))
     × (answer .refusal ≡ 0 → total (leftHeld (answer .values .left) exit) ≡ answer .values .unserved)
     × (answer .refusal ≡ 0
-    → ShelfPromise (c .rack) (recordsIn c) (copiesHeld (c .rack) exit) (leftHeld (answer .values .left) exit))
+    → ShelfPromise (c .rack) (recordsIn c) (layoutOf (copiesHeld (c .rack) exit)) (leftHeld (answer .values .left) exit))
 
 -- Demand 3 of an accepted call's plan, its shelf copies included.
 demand3-plan :
     (c : Call) → CallWellFormed c
-    → Demand3 (leastSlots (c .rack)) (c .rack) (recordsIn c) (planIn c .copies) (served (planIn c .copies))
+    → Demand3 (leastSlots (c .rack)) (c .rack) (recordsIn c) (layoutIn c) (served (layoutIn c))
     (unserved (filling (c .rack)) (listOf (recordsIn c)))
 demand3-plan c formed =
     subst
-    (λ (s : ℕ). Demand3 (leastSlots (c .rack)) (c .rack) (recordsIn c) (planIn c .copies) s (unserved (filling (c .rack)) (listOf (recordsIn c))))
+    (λ (s : ℕ). Demand3 (leastSlots (c .rack)) (c .rack) (recordsIn c) (layoutIn c) s (unserved (filling (c .rack)) (listOf (recordsIn c))))
     (sym (promised .ownServes)) promised
   where
     distinct : Distinct (recordsIn c)
     distinct = formed .accepted .distinct
 
     promised :
-        Demand3 (leastSlots (c .rack)) (c .rack) (recordsIn c) (planIn c .copies) (served (placedIn c))
+        Demand3 (leastSlots (c .rack)) (c .rack) (recordsIn c) (layoutIn c) (served (placedIn c))
         (unserved (filling (c .rack)) (listOf (recordsIn c)))
     promised =
         demand3-shelved (shelfFilms (recordsIn c)) (placedIn c)
@@ -81,11 +83,13 @@ kept-verdict : (c : Call) (t : Tables) (v : Verdict (Unit {0})) → verdict c t 
 kept-verdict c t (given u) e = (
   λ h. absurd (omega arith),
   λ h. subst
-      (λ (layout : List (List Item)). Demand3 (leastSlots (c .rack)) (c .rack) (recordsIn c) layout (served (planIn c .copies))
-      (unserved (filling (c .rack)) (listOf (recordsIn c)))) (sym (ap (λ (p : Plan). p .copies) held)) (demand3-plan c formed),
+      (λ (layout : List (List Item)). Demand3 (leastSlots (c .rack)) (c .rack) (recordsIn c) layout (served (layoutIn c))
+      (unserved (filling (c .rack)) (listOf (recordsIn c)))) (sym laid) (demand3-plan c formed),
   λ h. ap (λ (p : Plan). total (p .left)) held ∙ sumBy-byFilm amountOf (leftIn c) ∙ left-total (c .rack) (recordsIn c) usable (formed .accepted),
-  λ h. subst (λ (p : Plan). ShelfPromise (c .rack) (recordsIn c) (p .copies) (p .left)) (sym held)
-      (shelf-promise (c .rack) (recordsIn c) usable (formed .accepted)),
+  λ h. subst (λ (layout : List (List Item)). ShelfPromise (c .rack) (recordsIn c) layout (leftHeld (length (planIn c .left)) (holdingCall c t)))
+      (sym laid)
+      (subst (λ (p : Plan). ShelfPromise (c .rack) (recordsIn c) (layoutIn c) (p .left)) (sym held)
+      (shelf-promise (c .rack) (recordsIn c) usable (formed .accepted))),
 )
   where
     formed : CallWellFormed c
@@ -95,7 +99,10 @@ kept-verdict c t (given u) e = (
     usable = accepted-usable (c .rack) (formed .rack)
 
     held : planHeld (c .rack) (holdingCall c t) (length (planIn c .left)) ≡ planIn c
-    held = padded-held (planIn c) (formed .plan) t (recordCount (c .list))
+    held = padded-held (planIn c) (formed .plan) (recordCount (c .list)) t
+
+    laid : layoutOf (copiesHeld (c .rack) (holdingCall c t)) ≡ layoutIn c
+    laid = ap (λ (p : Plan). layoutOf (p .copies)) held ∙ marked-layout [] (layoutIn c)
 kept-verdict c t (refused number second) e =
     let some : 1 ≤ number = subst Numbered e (verdict-numbered c t) in
     (λ h. refl, λ h. absurd (omega (arith, some)), λ h. absurd (omega (arith, some)), λ h. absurd (omega (arith, some)))

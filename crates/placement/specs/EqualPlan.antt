@@ -1,7 +1,8 @@
 -- The plan of document 01's rack of N equal disks, which are filled in order 1 to N.
 use Prim.Native.Nat.{ℕ}
-use mathlib.Core.List.{List, _++_}
+use mathlib.Core.List.{List, [], _++_}
 use Rattle.placement.specs.Items.{Item, listOf, byFilm}
+use Rattle.placement.specs.Copies.{marked}
 use Rattle.placement.specs.Rack.{rackOf}
 use Rattle.placement.specs.Records.{recordsOf}
 use Rattle.placement.specs.Method.{placement, remaining}
@@ -16,6 +17,6 @@ equalPlan disks slots load bytes =
     let list = listOf (recordsOf bytes) in
     record {
       rack = rack;
-      copies = shelved rack films (placement rack list);
+      copies = marked [] (shelved rack films (placement rack list));
       left = byFilm (unshelved rack films (placement rack list) ++ remaining rack list);
     }

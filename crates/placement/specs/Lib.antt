@@ -1,4 +1,5 @@
 pub mod Items
+pub mod Copies
 pub mod Rack
 pub mod Window
 pub mod Disk

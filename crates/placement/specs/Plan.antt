@@ -1,17 +1,18 @@
--- Plans as values, and which of them are well formed, as document 01's "Tables" and 02's P1 and P2 have it.
+-- Plans as values, and which of them are well formed, as document 01's "Tables" and 02's P1, P2 and P4 have it.
 use Prim.Native.Nat.{ℕ}
 use mathlib.Core.Bool.{Bool, true, false, _&&_}
-use mathlib.Core.List.{List, [], _∷_}
+use mathlib.Core.List.{List, [], _∷_, map}
 use lib.Dec.{leb, ltb, eqb}
 use lib.ListN.{length}
 use Rattle.placement.specs.Items.{Item, total, occurrences}
+use Rattle.placement.specs.Copies.{Copy, unmarked, layoutOf}
 use Rattle.placement.specs.Rack.{Disk, rackAccepted, inRange, mostPlanFilm, mostDemand}
 use Rattle.placement.specs.Method.{served}
 
 -- The rack, each disk's copies, and what is left.
 pub record Plan : Type 0 where
   pub rack : List Disk
-  pub copies : List (List Item)
+  pub copies : List (List Copy)
   pub left : List Item
 
 -- "At most 1,024 left films."
@@ -44,6 +45,20 @@ disksAccepted [] (copies ∷ rest) = false
 disksAccepted (d ∷ ds) [] = false
 disksAccepted (d ∷ ds) (copies ∷ rest) = diskAccepted d copies && disksAccepted ds rest
 
+-- The marks of a disk's copies are 0 or 1.
+abbrev pub marksAccepted : List Copy → Bool
+marksAccepted [] = true
+marksAccepted (c ∷ cs) = leb (c .mark) 1 && marksAccepted cs
+
+-- A disk's copies are accepted, and so are their marks.
+abbrev pub copiesAccepted : Disk → List Copy → Bool
+copiesAccepted d copies = diskAccepted d (map unmarked copies) && marksAccepted copies
+
+-- The marks of every disk's copies are.
+abbrev pub allMarksAccepted : List (List Copy) → Bool
+allMarksAccepted [] = true
+allMarksAccepted (copies ∷ rest) = marksAccepted copies && allMarksAccepted rest
+
 -- The films ascend strictly, the first one above a number.
 abbrev pub ascendingAbove : ℕ → List Item → Bool
 ascendingAbove film [] = true
@@ -59,11 +74,13 @@ leftAccepted left = leb (length left) mostLeft && (ascendingAbove 0 left && ever
 
 -- A well-formed plan, but for the unused copy places, which a plan value does not have.
 abbrev pub wellFormed : Plan → Bool
-wellFormed p = rackAccepted (p .rack) && (disksAccepted (p .rack) (p .copies) && leftAccepted (p .left))
+wellFormed p =
+    rackAccepted (p .rack)
+    && (disksAccepted (p .rack) (layoutOf (p .copies)) && (allMarksAccepted (p .copies) && leftAccepted (p .left)))
 
 -- "Its S and U are the sums over its tables."
 abbrev pub servedOf : Plan → ℕ
-servedOf p = served (p .copies)
+servedOf p = served (layoutOf (p .copies))
 
 -- U is the sum over what is left.
 abbrev pub unservedOf : Plan → ℕ

@@ -4,6 +4,7 @@ use mathlib.Core.List.{List, [], _∷_, map, _++_}
 use lib.ListN.{length}
 use Rattle.refusal.specs.Verdict.{Verdict, given, unless, Numbers, answered, afterwards}
 use Rattle.placement.specs.Items.{Item, listOf, byFilm}
+use Rattle.placement.specs.Copies.{halvesOf, marked}
 use Rattle.placement.specs.Rack.{Disk, firstSlots, firstLoad, disksInRange, sameRatio}
 use Rattle.placement.specs.Records.{recordCount, recordsOf, shapeJudged, recordsJudged}
 use Rattle.placement.specs.Method.{remaining, served, unserved}
@@ -56,13 +57,21 @@ placedIn c = placed (c .rack) (listOf (recordsIn c))
 abbrev pub leftIn : Call → List Item
 leftIn c = unshelved (c .rack) (shelfFilms (recordsIn c)) (placedIn c) ++ remaining (filling (c .rack)) (listOf (recordsIn c))
 
--- The plan of a call: the method's copies of each disk and the shelf copies behind them, and what is left by ascending film.
-abbrev pub planIn : Call → Plan
-planIn c = record {
+-- The copies of each disk: the method's, and the shelf copies behind them.
+abbrev pub layoutIn : Call → List (List Item)
+layoutIn c = shelved (c .rack) (shelfFilms (recordsIn c)) (placedIn c)
+
+-- The plan of a call after an earlier one: the copies of each disk, marked by what the disks held then, and what is left by ascending film.
+abbrev pub planAfter : (earlier : List (List Item)) → Call → Plan
+planAfter earlier c = record {
   rack = c .rack;
-  copies = shelved (c .rack) (shelfFilms (recordsIn c)) (placedIn c);
+  copies = marked earlier (layoutIn c);
   left = byFilm (leftIn c);
 }
+
+-- The plan of a call: "without an earlier plan nothing is marked".
+abbrev pub planIn : Call → Plan
+planIn c = planAfter [] c
 
 -- "The answer also gives S, U and the number of left films."
 pub record PlanSums : Type 0 where
@@ -74,15 +83,19 @@ abbrev pub sums : (served unserved left : ℕ) → PlanSums
 sums s u left = record { served = s; unserved = u; left = left }
 
 abbrev pub sumsIn : Call → PlanSums
-sumsIn c = sums (served (planIn c .copies)) (unserved (filling (c .rack)) (listOf (recordsIn c))) (length (planIn c .left))
+sumsIn c = sums (served (layoutIn c)) (unserved (filling (c .rack)) (listOf (recordsIn c))) (length (planIn c .left))
 
 -- The numbers of a verdict on a call.
 abbrev pub answerFor : Call → Verdict (Unit {0}) → Numbers PlanSums
 answerFor c v = answered (sums 0 0 0) (λ u. sumsIn c) v
 
--- The tables with the plan of a call: unused copy places below all slots are zero, and left places below the number of records.
+-- The tables with a plan for the list of a call: unused copy places below all slots are zero, and left places below the number of records.
+abbrev pub holdingFor : Call → Plan → Tables → Tables
+holdingFor c p t = holding (p .rack) (map (map halvesOf) (p .copies)) (padded (recordCount (c .list)) (map entryOf (p .left))) t
+
+-- The tables with the plan of a call.
 abbrev pub holdingCall : Call → Tables → Tables
-holdingCall c t = holding (c .rack) (planIn c .copies) (padded (recordCount (c .list)) (map entryOf (planIn c .left))) t
+holdingCall c t = holdingFor c (planIn c) t
 
 abbrev pub tablesFor : Call → Tables → Verdict (Unit {0}) → Tables
 tablesFor c t v = afterwards t (λ u. holdingCall c t) v

@@ -5,6 +5,7 @@ use mathlib.Core.List.{List, [], _∷_, _++_, map}
 use lib.Dec.{leb}
 use lib.ListN.{length, drop, replicate}
 use Rattle.placement.specs.Items.{Item, item}
+use Rattle.placement.specs.Copies.{Copy, halvesOf, copyOf}
 use Rattle.placement.specs.Rack.{Disk, allSlots, mostDisks, mostSlots, mostRecords}
 
 -- An entry of film and viewers, or film and amount, is one number of 64 bits: the film in the low 32 bits, viewers or amount in the
@@ -14,6 +15,16 @@ entryOf x = x .amount * 4294967296 + x .film
 
 abbrev pub itemIn : ℕ → Item
 itemIn entry = item (entry % 4294967296) (entry / 4294967296)
+
+-- In the copy table "the low 16 bits are the film, the next 16 the mark, the high 32 the viewers".
+abbrev pub copyEntry : Copy → ℕ
+copyEntry c = entryOf (halvesOf c)
+
+abbrev pub copyIn : ℕ → Copy
+copyIn entry = copyOf (itemIn entry)
+
+abbrev pub copiesIn : List ℕ → List Copy
+copiesIn entries = map copyOf (map itemIn entries)
 
 -- The copy table, the count table and the left table.
 pub record Tables : Type 0 where

@@ -13,7 +13,7 @@ use Rattle.placement.specs.Rack.{Disk, firstSlots, firstLoad, inRange, disksInR
 use Rattle.placement.specs.Records.{recordCount, recordsJudgedFrom}
 use Rattle.placement.specs.Tables.{Tables, roomFor, ownTables}
 use Rattle.placement.specs.Plan.{Plan, servedOf, unservedOf}
-use Rattle.placement.specs.Planning.{Call, ratioJudgedFrom, verdict, planIn, recordsIn}
+use Rattle.placement.specs.Planning.{Call, ratioJudgedFrom, verdict, layoutIn, planIn, recordsIn}
 use Rattle.placement.proofs.Conjunctions.{both-true}
 use Rattle.placement.proofs.Tests.{inRange-bounds}
 use Rattle.placement.proofs.Records.{records-length}
@@ -22,7 +22,8 @@ use Rattle.plan_text.specs.Decimal.{decimal}
 use Rattle.plan_text.specs.Text.{closed, lineFeed, firstLine, leftLine, servedLine, lines, disksThen, textOf}
 use Rattle.plan_text.specs.RefusalLine.{refusalEnd, refusalLine, refusalText}
 use Rattle.plan_text.proofs.Lengths.{length-5}
-use Rattle.plan_text.proofs.LongestText.{text-length-equal}
+use Rattle.plan_text.proofs.Lengths.{none-marked}
+use Rattle.plan_text.proofs.LongestText.{text-length-unmarked}
 use Rattle.plan_output.specs.Output.{printed, printedFor}
 use Rattle.plan_output.specs.OutputPromise.{mostOutput}
 
@@ -93,12 +94,13 @@ unfolding refusalText
 refusal-some number second = omega arith
 
 module _ (c : Call) where
-  -- What is printed for a call of equal disks is never longer than the longest text of a well-formed plan of such disks.
+  -- What is printed for a call of equal disks is never longer than the longest text of a well-formed plan of such disks without marks.
   pub printed-short : allEqual (c .rack) ≡ true → length (printedFor c) ≤ mostOutput
   printed-short equal = go (verdict c ownTables) refl (small-verdict c ownTables)
     where
       go : (v : Verdict (Unit {0})) → verdict c ownTables ≡ v → Small v → length (printed c v) ≤ mostOutput
-      go (given u) e small = text-length-equal (planIn c) (call-wellFormed c ownTables e .plan) equal
+      go (given u) e small =
+          text-length-unmarked (planIn c) (call-wellFormed c ownTables e .plan) (none-marked (layoutIn c)) equal
       go (refused number second) e small = omega (arith, refusal-short number second (omega arith) (omega arith))
 
   pub printed-some : 1 ≤ length (printedFor c)

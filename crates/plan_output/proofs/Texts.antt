@@ -8,6 +8,7 @@ use borrow.Author.Tests.{leb-true, le-leb, lt-leb}
 use lib.Dec.{leb}
 use lib.ListN.{length, drop, length-append, length-drop, take-append-drop}
 use Rattle.refusal.specs.Verdict.{given, Numbers}
+use Rattle.placement.specs.Copies.{halvesOf}
 use Rattle.placement.specs.Rack.{Disk, allSlots, rackAccepted}
 use Rattle.placement.specs.Tables.{Tables, entryOf, written, places, padded, roomFor, ownTables}
 use Rattle.placement.specs.Records.{recordCount}
@@ -76,8 +77,8 @@ module _ (c : Call) (formed : CallWellFormed c) where
   room-after : roomStated afterPlanning ≡ true
   room-after =
       room-kept (c .rack) (length (planIn c .left)) ownTables (holdingCall c ownTables)
-      (written-room (places (c .rack) (planIn c .copies)) (ownTables .copies))
-      (written-room (map length (planIn c .copies)) (ownTables .counts))
+      (written-room (places (c .rack) (map (map halvesOf) (planIn c .copies))) (ownTables .copies))
+      (written-room (map length (map (map halvesOf) (planIn c .copies))) (ownTables .counts))
       (written-room (padded (recordCount (c .list)) (map entryOf (planIn c .left))) (ownTables .left))
       (own-room (c .rack) (length (planIn c .left)) (formed .rack) (omega (arith, formed .leftMost, formed .recordsMost)))
 

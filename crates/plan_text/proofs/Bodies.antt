@@ -5,14 +5,16 @@ use Prim.Native.Nat.{ℕ, _≤_}
 use native.Mathlib.Omega.{arith}
 use lib.ListN.{length}
 use Rattle.placement.specs.Items.{Item}
+use Rattle.placement.specs.Copies.{Copy}
 use Rattle.plan_text.specs.Ascii.{ascii}
 use Rattle.plan_text.specs.Decimal.{decimal}
-use Rattle.plan_text.specs.Text.{space, closed, pairsText, rackLine, servedLine}
-use Rattle.plan_text.specs.Parse.{Parse, parsed, next, byte, literal, number, pairs}
-use Rattle.plan_text.specs.Reading.{Sizes, rackBody, pairsBody}
+use Rattle.plan_text.specs.Text.{space, closed, pairsText, copiesText, rackLine, servedLine}
+use Rattle.plan_text.specs.Parse.{Parse, parsed, next, byte, literal, number, pairs, copies}
+use Rattle.plan_text.specs.Reading.{Sizes, rackBody, pairsBody, copiesBody}
 use Rattle.plan_text.proofs.Pieces.{parsed-value, parsed-rest, next-parsed, byte-sound, literal-sound, literal-complete}
 use Rattle.plan_text.proofs.Numbers.{Faithful, most, number-sound, number-complete}
 use Rattle.plan_text.proofs.Pairs.{SmallItems, pairs-sound, pairs-complete}
+use Rattle.plan_text.proofs.CopyTexts.{SmallCopies, copies-sound, copies-complete}
 use Rattle.plan_text.proofs.Grammar.{Body}
 
 -- At most so many pairs, and small ones.
@@ -32,6 +34,25 @@ pairs-body {cap} f head n = record {
       ap (pairsBody cap head n) (append-assoc head (pairsText xs) r)
       ∙ ap (λ (p : Parse (Unit {0})). next p (λ u t. pairs cap n t)) (literal-complete head (pairsText xs ++ r))
       ∙ pairs-complete f n xs r (small .0) (small .1);
+}
+
+-- At most so many copies, and small ones.
+abbrev pub FewCopies : ℕ → List Copy → Type 0
+FewCopies n cs = (length cs ≤ n) × SmallCopies cs
+
+-- A head and copies: at most n small copies are read.
+pub copies-body : {cap : ℕ → ℕ} → Faithful cap → (head : List ℕ) (n : ℕ)
+    → Body (copiesBody cap head n) (λ cs. head ++ copiesText cs) (FewCopies n)
+copies-body {cap} f head n = record {
+  sound = λ t cs r e small.
+      next-parsed (literal head t) _ e (λ u t₁ e₁ d₁.
+      literal-sound head t t₁ e₁
+      ∙ ap (λ (s : List ℕ). head ++ s) (copies-sound f n t₁ cs r d₁ (small .1))
+      ∙ sym (append-assoc head (copiesText cs) r));
+  complete = λ cs r small.
+      ap (copiesBody cap head n) (append-assoc head (copiesText cs) r)
+      ∙ ap (λ (p : Parse (Unit {0})). next p (λ u t. copies cap n t)) (literal-complete head (copiesText cs ++ r))
+      ∙ copies-complete f n cs r (small .0) (small .1);
 }
 
 -- The served line is a literal.

@@ -13,7 +13,7 @@ use Rattle.plan_text.specs.Reading.{planRead}
 use Rattle.plan_text.specs.ReadCall.{Told, judging, reading, rackAfterReading, tablesAfterReading}
 use Rattle.plan_text.specs.WriteCall.{writing, spaceAfter}
 use Rattle.plan_text.specs.CallExamples.{Writing, writings, Taking, takings}
-use Rattle.plan_text.specs.Examples.{Example, accepted, refusedAtLine1, refusedMixed, refusedAtLine2, refusedByLength, refusedLater, caseAText, caseAPlan, mixedText, mixedPlan}
+use Rattle.plan_text.specs.Examples.{Example, accepted, refusedAtLine1, refusedMixed, refusedAtLine2, refusedMarks, refusedByLength, refusedLater, caseAText, caseAPlan, mixedText, mixedPlan, markedText, markedPlan}
 
 -- What the definitions give for an example, and what it expects.
 abbrev judgement : Example → Numbers Told
@@ -31,6 +31,11 @@ caseA-text = (refl, refl)
 pub mixed-text : (textOf mixedPlan ≡ mixedText) × (wellFormed mixedPlan ≡ true)
 unfolding textOf decimal
 mixed-text = (refl, refl)
+
+-- So is the text with marks.
+pub marked-text : (textOf markedPlan ≡ markedText) × (wellFormed markedPlan ≡ true)
+unfolding textOf decimal
+marked-text = (refl, refl)
 
 -- Every example's judgement is the one expected.
 pub accepted-hold : map judgement accepted ≡ map expected accepted
@@ -51,6 +56,11 @@ refusedMixed-hold = refl
 pub refusedAtLine2-hold : map judgement refusedAtLine2 ≡ map expected refusedAtLine2
 unfolding judging planRead decimal
 refusedAtLine2-hold = refl
+
+-- Those that are by a mark.
+pub refusedMarks-hold : map judgement refusedMarks ≡ map expected refusedMarks
+unfolding judging planRead decimal
+refusedMarks-hold = refl
 
 -- Those that are refused by their length, or not.
 pub refusedByLength-hold : map judgement refusedByLength ≡ map expected refusedByLength

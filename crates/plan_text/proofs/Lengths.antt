@@ -1,16 +1,17 @@
--- How long decimal numbers and lines with pairs are.
-use mathlib.Core.Path.{_≡_, ap, _∙_}
+-- How long decimal numbers and lines with pairs and copies are.
+use mathlib.Core.Path.{_≡_, refl, ap, _∙_}
 use mathlib.Core.List.{List, [], _∷_, _++_, map}
-use Prim.Native.Nat.{ℕ, suc, _+_, _*_, _/_, _%_, _≤_, _<_}
+use Prim.Native.Nat.{ℕ, zero, suc, _+_, _*_, _/_, _%_, _≤_, _<_, min}
 use native.Mathlib.Omega.{arith}
 use lib.ListN.{length, length-append}
 use Rattle.placement.specs.Items.{Item, total}
+use Rattle.placement.specs.Copies.{Copy, unmarked, markedDisk, marked}
 use Rattle.placement.specs.Rack.{Disk, mostDemand}
 use Rattle.placement.specs.WellFormed.{Each, Entry}
 use Rattle.placement.proofs.Tests.{by-order}
 use Rattle.placement.proofs.DiskRanges.{DiskInRange}
 use Rattle.plan_text.specs.Decimal.{digit, decimal}
-use Rattle.plan_text.specs.Text.{space, closed, pairText, pairsText, diskItem}
+use Rattle.plan_text.specs.Text.{space, closed, pairText, pairsText, markEnd, copyText, copiesText, diskItem}
 use Rattle.plan_text.proofs.Decimals.{decimal-small, decimal-large}
 
 -- A number below 10 has one digit.
@@ -82,18 +83,55 @@ length-mixed (d ∷ ds) each =
       length-mixed ds (each .1),
     )
 
--- The pairs of c copies with v viewers in sum.
-pub length-copies : (limit : ℕ) → limit ≤ 65535 → (xs : List Item) → Each (Entry limit) xs
-    → 9000 * length (pairsText xs) ≤ 9000 + 116000 * length xs + total xs
-length-copies limit h [] entries = omega arith
-length-copies limit h (x ∷ xs) entries =
+-- A copy: the same, and five bytes more where it is marked.
+length-mark : (m : ℕ) → length (markEnd m) ≤ 1 + 5 * min 1 m
+length-mark zero = omega arith
+length-mark (suc m) = omega arith
+
+length-copy : (c : Copy) → length (copyText c) ≤ 3 + length (decimal (c .film)) + length (decimal (c .viewers)) + 5 * min 1 (c .mark)
+length-copy c =
     omega (
       arith,
-      length-append (pairText x) (pairsText xs),
-      length-pair x,
-      length-5 (x .film) (omega (arith, entries .0 .filmMost)),
-      length-weighed (x .amount) (omega (arith, entries .0 .amountMost)),
-      length-copies limit h xs (entries .1),
+      length-append (decimal (c .film)) (space ∷ (decimal (c .viewers) ++ markEnd (c .mark))),
+      length-append (decimal (c .viewers)) (markEnd (c .mark)),
+      length-mark (c .mark),
+    )
+
+-- How many copies are marked: of a disk, at most all of them,
+abbrev pub marksIn : List Copy → ℕ
+marksIn [] = 0
+marksIn (c ∷ cs) = min 1 (c .mark) + marksIn cs
+
+pub marks-most : (cs : List Copy) → marksIn cs ≤ length (map unmarked cs)
+marks-most [] = omega arith
+marks-most (c ∷ cs) = omega (arith, marks-most cs)
+
+-- and of all disks.
+abbrev pub allMarksIn : List (List Copy) → ℕ
+allMarksIn [] = 0
+allMarksIn (copies ∷ rest) = marksIn copies + allMarksIn rest
+
+-- Without an earlier plan none is.
+disk-unmarked : (copies : List Item) → marksIn (markedDisk [] copies) ≡ 0
+disk-unmarked [] = refl
+disk-unmarked (x ∷ xs) = omega (arith, disk-unmarked xs)
+
+pub none-marked : (layout : List (List Item)) → allMarksIn (marked [] layout) ≡ 0
+none-marked [] = refl
+none-marked (copies ∷ rest) = omega (arith, disk-unmarked copies, none-marked rest)
+
+-- The text of c copies with v viewers in sum.
+pub length-copies : (limit : ℕ) → limit ≤ 65535 → (cs : List Copy) → Each (Entry limit) (map unmarked cs)
+    → 9000 * length (copiesText cs) ≤ 9000 + 116000 * length (map unmarked cs) + total (map unmarked cs) + 45000 * marksIn cs
+length-copies limit h [] entries = omega arith
+length-copies limit h (c ∷ cs) entries =
+    omega (
+      arith,
+      length-append (copyText c) (copiesText cs),
+      length-copy c,
+      length-5 (c .film) (omega (arith, entries .0 .filmMost)),
+      length-weighed (c .viewers) (omega (arith, entries .0 .amountMost)),
+      length-copies limit h cs (entries .1),
     )
 
 -- The pairs of c left films.

@@ -2,7 +2,9 @@ pub mod ExamplesHold
 pub mod Decimals
 pub mod Pieces
 pub mod Numbers
+pub mod Spaced
 pub mod Pairs
+pub mod CopyTexts
 pub mod Upto
 pub mod Grammar
 pub mod LineThen

@@ -4,10 +4,13 @@ use mathlib.Core.Bool.{true, not}
 use mathlib.Core.List.{List, [], _∷_, map}
 use Prim.Native.Nat.{ℕ, _≤_}
 use native.Mathlib.Omega.{arith}
+use borrow.Author.Tests.{leb-true}
+use lib.Dec.{leb}
 use lib.ListN.{length-map}
 use Rattle.placement.specs.Items.{Item}
+use Rattle.placement.specs.Copies.{Copy, unmarked}
 use Rattle.placement.specs.Rack.{Disk, inRange, mostDisks, mostSlots, mostLoad, mostDemand, rackAccepted, allEqual}
-use Rattle.placement.specs.Plan.{diskAccepted, leftAccepted, mostLeft}
+use Rattle.placement.specs.Plan.{diskAccepted, marksAccepted, copiesAccepted, leftAccepted, mostLeft}
 use Rattle.placement.specs.WellFormed.{Each, Entry}
 use Rattle.placement.proofs.Conjunctions.{both-true}
 use Rattle.placement.proofs.Tests.{inRange-bounds}
@@ -17,7 +20,8 @@ use Rattle.placement.proofs.Formed.{disk-count, disk-entries, left-count, left-
 use Rattle.plan_text.specs.Reading.{Sizes, sizesAccepted, itemDisk, mixedAccepted}
 use Rattle.plan_text.proofs.Numbers.{most}
 use Rattle.plan_text.proofs.Pairs.{SmallItems}
-use Rattle.plan_text.proofs.Bodies.{FewItems}
+use Rattle.plan_text.proofs.CopyTexts.{SmallCopies}
+use Rattle.plan_text.proofs.Bodies.{FewItems, FewCopies}
 
 -- Accepted numbers of a rack are at most 64 disks, 32 slots a disk and load 65,535.
 module _ (z : Sizes) (e : sizesAccepted z ≡ true) where
@@ -57,9 +61,21 @@ entries-small limit h (x ∷ xs) entries =
     let amount : x .amount ≤ most = omega (arith, entries .0 .amountMost) in
     ((film, amount), entries-small limit h xs (entries .1))
 
+-- Copies that are entries with accepted marks are small.
+copies-small : (limit : ℕ) → limit ≤ most → (cs : List Copy) → Each (Entry limit) (map unmarked cs) → marksAccepted cs ≡ true → SmallCopies cs
+copies-small limit h [] entries e = tt
+copies-small limit h (c ∷ cs) entries e =
+    let both = both-true (leb (c .mark) 1) (marksAccepted cs) e in
+    let viewers : c .viewers ≤ most = omega (arith, entries .0 .amountMost) in
+    ((entries .0 .filmMost, leb-true (c .mark) 1 (both .0), viewers), copies-small limit h cs (entries .1) (both .1))
+
 -- An accepted disk has at most k copies, with small numbers.
-pub disk-few : (d : Disk) → d .load ≤ most → (xs : List Item) → diskAccepted d xs ≡ true → FewItems (d .slots) xs
-disk-few d h xs e = (disk-count d xs e, entries-small (d .load) h xs (disk-entries d xs e))
+pub disk-few : (d : Disk) → d .load ≤ most → (cs : List Copy) → copiesAccepted d cs ≡ true → FewCopies (d .slots) cs
+disk-few d h cs e =
+    let both = both-true (diskAccepted d (map unmarked cs)) (marksAccepted cs) e in (
+      omega (arith, length-map cs unmarked, disk-count d (map unmarked cs) (both .0)),
+      copies-small (d .load) h cs (disk-entries d (map unmarked cs) (both .0)) (both .1),
+    )
 
 -- Accepted left films are at most 1,024, with small numbers.
 pub left-few : (xs : List Item) → leftAccepted xs ≡ true → FewItems mostLeft xs

@@ -6,9 +6,10 @@ use Prim.Native.Nat.{ℕ, zero, suc, _/_, _%_, _≤_}
 use native.Mathlib.Omega.{arith}
 use borrow.Author.Tests.{ne-eqb}
 use Rattle.placement.specs.Items.{Item}
+use Rattle.placement.specs.Copies.{Copy}
 use Rattle.placement.proofs.Tests.{by-order}
 use Rattle.plan_text.specs.Decimal.{digit, decimal}
-use Rattle.plan_text.specs.Text.{space, closed, lineFeed, pairText, pairsText, rackLine, mixedHead, diskHead, leftHead, servedLine}
+use Rattle.plan_text.specs.Text.{space, closed, lineFeed, pairText, spacedText, pairsText, markEnd, copyText, copiesText, rackLine, mixedHead, diskHead, leftHead, servedLine}
 use Rattle.plan_text.proofs.Decimals.{decimal-small, decimal-large}
 use Rattle.plan_text.proofs.Upto.{oneLine, oneLine-append}
 
@@ -36,10 +37,26 @@ pair-oneLine x =
     oneLine-append (decimal (x .film)) (space ∷ (decimal (x .amount) ++ (closed ∷ []))) (decimal-oneLine (x .film))
     (oneLine-append (decimal (x .amount)) (closed ∷ []) (decimal-oneLine (x .amount)) refl)
 
--- Pairs have no line feed.
+-- A copy has no line feed.
+mark-oneLine : (m : ℕ) → oneLine (markEnd m) ≡ true
+mark-oneLine zero = refl
+mark-oneLine (suc m) = refl
+
+copy-oneLine : (c : Copy) → oneLine (copyText c) ≡ true
+copy-oneLine c =
+    oneLine-append (decimal (c .film)) (space ∷ (decimal (c .viewers) ++ markEnd (c .mark))) (decimal-oneLine (c .film))
+    (oneLine-append (decimal (c .viewers)) (markEnd (c .mark)) (decimal-oneLine (c .viewers)) (mark-oneLine (c .mark)))
+
+-- Values without a line feed have none one behind the other.
+spaced-oneLine : {A : Type 0} (text : A → List ℕ) → ((x : A) → oneLine (text x) ≡ true) → (xs : List A) → oneLine (spacedText text xs) ≡ true
+spaced-oneLine text each [] = refl
+spaced-oneLine text each (x ∷ xs) = oneLine-append (text x) (spacedText text xs) (each x) (spaced-oneLine text each xs)
+
 pairs-oneLine : (xs : List Item) → oneLine (pairsText xs) ≡ true
-pairs-oneLine [] = refl
-pairs-oneLine (x ∷ xs) = oneLine-append (pairText x) (pairsText xs) (pair-oneLine x) (pairs-oneLine xs)
+pairs-oneLine = spaced-oneLine pairText pair-oneLine
+
+copies-oneLine : (cs : List Copy) → oneLine (copiesText cs) ≡ true
+copies-oneLine = spaced-oneLine copyText copy-oneLine
 
 -- None of the five kinds of lines has a line feed inside.
 pub rack-oneLine : (n k l : ℕ) → oneLine (rackLine n k l) ≡ true
@@ -51,8 +68,8 @@ rack-oneLine n k l =
 pub mixed-oneLine : (xs : List Item) → oneLine (mixedHead ++ pairsText xs) ≡ true
 mixed-oneLine xs = pairs-oneLine xs
 
-pub disk-oneLine : (number : ℕ) (xs : List Item) → oneLine (diskHead number ++ pairsText xs) ≡ true
-disk-oneLine number xs = oneLine-append (diskHead number) (pairsText xs) (decimal-oneLine number) (pairs-oneLine xs)
+pub disk-oneLine : (number : ℕ) (cs : List Copy) → oneLine (diskHead number ++ copiesText cs) ≡ true
+disk-oneLine number cs = oneLine-append (diskHead number) (copiesText cs) (decimal-oneLine number) (copies-oneLine cs)
 
 pub left-oneLine : (xs : List Item) → oneLine (leftHead ++ pairsText xs) ≡ true
 left-oneLine xs = pairs-oneLine xs

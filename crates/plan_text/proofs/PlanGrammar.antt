@@ -1,12 +1,13 @@
 -- The laws of reading for the whole text of a plan, line by line from the last one.
 use mathlib.Core.Path.{_≡_, refl, ap}
-use mathlib.Core.List.{List, [], _∷_, _++_}
+use mathlib.Core.List.{List, [], _∷_, _++_, map}
 use Prim.Native.Nat.{ℕ, suc, _+_}
 use native.Mathlib.Omega.{arith}
 use Rattle.placement.specs.Items.{total}
+use Rattle.placement.specs.Copies.{unmarked, layoutOf}
 use Rattle.placement.specs.Method.{served}
 use Rattle.placement.specs.Rack.{Disk, rackOf, rackAccepted}
-use Rattle.placement.specs.Plan.{diskAccepted, leftAccepted, mostLeft, wellFormed}
+use Rattle.placement.specs.Plan.{copiesAccepted, leftAccepted, mostLeft, wellFormed}
 use Rattle.placement.specs.WellFormed.{Each}
 use Rattle.placement.proofs.Conjunctions.{both-true, and-holds}
 use Rattle.placement.proofs.DiskRanges.{DiskInRange, accepted-range}
@@ -16,7 +17,7 @@ use Rattle.plan_text.proofs.Numbers.{Faithful}
 use Rattle.plan_text.proofs.Grammar.{Grammar, Joins, line-of}
 use Rattle.plan_text.proofs.LineThen.{grammar-then}
 use Rattle.plan_text.proofs.OneLine.{disk-oneLine, left-oneLine}
-use Rattle.plan_text.proofs.Bodies.{pairs-body}
+use Rattle.plan_text.proofs.Bodies.{pairs-body, copies-body}
 use Rattle.plan_text.proofs.Limits.{disk-few, left-few}
 use Rattle.plan_text.proofs.FirstLine.{first-line}
 use Rattle.plan_text.proofs.LastLines.{served-grammar}
@@ -30,8 +31,8 @@ disks-grammar f [] each number s =
     (λ left e. served-grammar s (total left)) (left-joins number s)
 disks-grammar f (d ∷ ds) each number s =
     grammar-then
-    (line-of (diskAccepted d) (pairs-body f (diskHead number) (d .slots)) (disk-few d (omega (arith, each .0 .load))) (disk-oneLine number))
-    (λ copies e. disks-grammar f ds (each .1) (suc number) (s + total copies)) (disk-joins d ds number s)
+    (line-of (copiesAccepted d) (copies-body f (diskHead number) (d .slots)) (disk-few d (omega (arith, each .0 .load))) (disk-oneLine number))
+    (λ copies e. disks-grammar f ds (each .1) (suc number) (s + total (map unmarked copies))) (disk-joins d ds number s)
 
 -- A plan is its rack's line and what stands behind it.
 plan-joins : Joins rackAccepted firstLine tailAccepted (λ rack. tailText 1 0) wellFormed textOf withRack
@@ -44,7 +45,7 @@ plan-joins = record {
       let parts = both-true (rackAccepted (p .rack)) (tailAccepted (p .rack) tail) ok in
       (p .rack, tail, parts .0, parts .1, refl);
   text = λ rack tail e.
-      let sum : served (tail .copies) ≡ 0 + served (tail .copies) = omega arith in
+      let sum : served (layoutOf (tail .copies)) ≡ 0 + served (layoutOf (tail .copies)) = omega arith in
       ap (λ (x : ℕ). firstLine rack ++ (lineFeed ∷ behind tail x)) sum;
 }
   where

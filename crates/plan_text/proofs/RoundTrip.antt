@@ -9,13 +9,14 @@ use lib.Dec.{leb}
 use lib.ListN.{length, take, drop, length-append, length-map}
 use Rattle.refusal.specs.Verdict.{given, unless}
 use Rattle.refusal.proofs.Verdicts.{unless-passes}
+use Rattle.placement.specs.Copies.{halvesOf}
 use Rattle.placement.specs.Rack.{Disk, allSlots}
 use Rattle.placement.specs.Tables.{Tables, entryOf, places, written}
 use Rattle.placement.specs.Plan.{Plan, wellFormed}
 use Rattle.placement.proofs.Conjunctions.{both-true, and-holds}
 use Rattle.placement.proofs.Chains.{rack-passes}
-use Rattle.placement.proofs.Formed.{plan-rack, plan-disks, plan-lists}
-use Rattle.placement.proofs.ReadBack.{places-length}
+use Rattle.placement.proofs.Formed.{plan-rack, plan-lists}
+use Rattle.placement.proofs.ReadBack.{plan-fits, fits-length}
 use Rattle.plan_text.specs.Text.{textOf}
 use Rattle.plan_text.specs.Held.{unusedZeroFrom}
 use Rattle.plan_text.specs.ReadCall.{textVerdict, holdingRack, holdingPlan}
@@ -48,17 +49,19 @@ call-same p lent t = ap (λ (rack : List Disk). writeCall rack (holdingPlan p t)
 room-after : (p : Plan) (t : Tables) → wellFormed p ≡ true → roomStated (callOf p t) ≡ true
 room-after p t e =
     let after = holdingPlan p t in
+    let halves = map (map halvesOf) (p .copies) in
     and-holds (leb (allSlots (p .rack)) (length (after .copies))) _
     (le-leb (allSlots (p .rack)) (length (after .copies)) (omega (
       arith,
-      places-length (p .rack) (p .copies) (plan-disks p e),
-      length-written (places (p .rack) (p .copies)) (t .copies),
+      fits-length (p .rack) halves (plan-fits p e),
+      length-written (places (p .rack) halves) (t .copies),
     )))
     (and-holds (leb (length (p .rack)) (length (after .counts))) _
     (le-leb (length (p .rack)) (length (after .counts)) (omega (
       arith,
-      length-written (map length (p .copies)) (t .counts),
-      length-map (p .copies) length,
+      length-written (map length halves) (t .counts),
+      length-map halves length,
+      length-map (p .copies) (map halvesOf),
       plan-lists p e,
     )))
     (le-leb (length (p .left)) (length (after .left))

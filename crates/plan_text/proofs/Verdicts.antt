@@ -32,7 +32,7 @@ secondIn (given p) = 0
 secondIn (refused number second) = second
 
 -- A plan is no refusal.
-given-refused : {P : Type 0} (p : Plan) (n s : ℕ) → given p ≡ refused n s → P
+pub given-refused : {P : Type 0} (p : Plan) (n s : ℕ) → given p ≡ refused n s → P
 given-refused p n s e = false-true (unless-given false n s (given p) p (sym e) .0)
 
 -- The text of a well-formed plan is never refused.

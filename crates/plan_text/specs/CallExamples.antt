@@ -5,14 +5,19 @@ use lib.ListN.{replicate}
 use Rattle.refusal.specs.Verdict.{Numbers}
 use Rattle.placement.specs.Items.{item}
 use Rattle.placement.specs.Rack.{Disk, disk, rackOf}
-use Rattle.placement.specs.Tables.{Tables, tables, entryOf}
+use Rattle.placement.specs.Copies.{copy}
+use Rattle.placement.specs.Tables.{Tables, tables, entryOf, copyEntry}
 use Rattle.plan_text.specs.ReadCall.{Told, told, toldNothing}
 use Rattle.plan_text.specs.WriteCall.{WriteCall, writeCall}
-use Rattle.plan_text.specs.Examples.{textLines, mixedText}
+use Rattle.plan_text.specs.Examples.{textLines, mixedText, markedText}
 
 -- The entry of a film with its viewers or amount.
 abbrev entry : ℕ → ℕ → ℕ
 entry film amount = entryOf (item film amount)
+
+-- The entry of a film with mark and viewers.
+abbrev marking : ℕ → ℕ → ℕ → ℕ
+marking film mark viewers = copyEntry (copy film mark viewers)
 
 -- A disk of two slots and load 5, and what it holds; 77 stands beyond.
 abbrev asking : (copies counts : List ℕ) → ℕ → WriteCall
@@ -65,6 +70,11 @@ mixedTables =
 abbrev mixedRack : List Disk
 mixedRack = disk 2 4 ∷ disk 4 8 ∷ []
 
+-- Two disks of two slots and load 5, with the copies of `markedText`.
+abbrev markedTables : Tables
+markedTables =
+    tables (marking 8 1 1 ∷ entry 65535 4 ∷ entry 8 0 ∷ marking 3 1 0 ∷ 77 ∷ []) (2 ∷ 2 ∷ 77 ∷ []) (entry 8 2 ∷ 77 ∷ [])
+
 -- Calls of writing.
 abbrev pub writings : List Writing
 writings =
@@ -85,6 +95,13 @@ writings =
     ∷ declines 10 9 (writeCall (disk 4 8 ∷ disk 2 4 ∷ []) mixedTables 1)
     ∷ declines 10 9 (writeCall mixedRack (tables (entry 8 3 ∷ entry 2 1 ∷ entry 8 5 ∷ entry 1 0 ∷ entry 3 0 ∷ entry 4 0 ∷ []) (2 ∷ 3 ∷ []) []) 0)
     ∷ declines 10 9 (writeCall mixedRack (tables (entry 8 3 ∷ entry 2 1 ∷ entry 8 5 ∷ entry 1 0 ∷ entry 3 0 ∷ 0 ∷ 0 ∷ []) (2 ∷ 5 ∷ []) []) 0)
+    ∷ writes 95 (writeCall (rackOf 2 2 5) markedTables 1) markedText
+    ∷ declines 10 9 (asking (marking 7 2 4 ∷ 0 ∷ 77 ∷ []) (1 ∷ 77 ∷ []) 1)
+    ∷ declines 10 9 (asking (marking 7 65535 4 ∷ 0 ∷ 77 ∷ []) (1 ∷ 77 ∷ []) 1)
+    ∷ declines 10 9 (asking (marking 7 1 4 ∷ marking 0 1 0 ∷ 77 ∷ []) (1 ∷ 77 ∷ []) 1)
+    ∷ declines 10 9 (asking (marking 0 1 4 ∷ 0 ∷ 77 ∷ []) (1 ∷ 77 ∷ []) 1)
+    ∷ declines 10 9 (asking (marking 7 1 2 ∷ marking 7 0 2 ∷ 77 ∷ []) (2 ∷ 77 ∷ []) 1)
+    ∷ declines 10 9 (writeCall (rackOf 1 2 5) (tables (marking 7 1 4 ∷ 0 ∷ []) (1 ∷ []) (marking 3 1 9 ∷ [])) 1)
     ∷ declines 12 9 (writeCall (rackOf 1 33 5) (tables [] [] []) 0)
     ∷ declines 12 9 (writeCall [] (tables [] [] []) 0)
     ∷ declines 12 9 (writeCall (disk 2 4 ∷ disk 4 9 ∷ disk 33 66 ∷ []) (tables [] [] []) 0)
@@ -126,6 +143,17 @@ takesMixed n rack lent after = record {
   after = after;
 }
 
+-- Reads `markedText` into two entries and tables.
+abbrev takesMarked : Tables → Tables → Taking
+takesMarked lent after = record {
+  text = markedText;
+  entries = others 2;
+  lent = lent;
+  numbers = record { refusal = 0; second = 0; values = told 2 5 2 1 };
+  rack = rackOf 2 2 5;
+  after = after;
+}
+
 -- Refuses, and leaves the n entries and the tables.
 abbrev leaves : ℕ → ℕ → List ℕ → ℕ → Tables → Taking
 leaves number second text n lent = record {
@@ -148,6 +176,7 @@ takings =
     ∷ takes shelfText 0 (sevens 3 2 3) (tables (entry 7 4 ∷ entry 8 0 ∷ 77 ∷ []) (2 ∷ 77 ∷ []) (entry 3 0 ∷ 77 ∷ 77 ∷ []))
     ∷ takesMixed 2 mixedRack (sevens 7 3 2) mixedTables
     ∷ takesMixed 4 (disk 2 4 ∷ disk 4 8 ∷ others 2) (sevens 7 3 2) mixedTables
+    ∷ takesMarked (sevens 5 3 2) markedTables
     ∷ leaves 7 0 smallText 1 (sevens 1 2 3)
     ∷ leaves 7 0 smallText 1 (sevens 3 0 3)
     ∷ leaves 7 0 smallText 1 (sevens 3 2 0)

@@ -1,11 +1,12 @@
--- Texts and their judgement: accepted ones, case A of document 01 and one of unequal disks among them, and texts that are refused at line 1, line 2
--- and later, the empty text among them.
+-- Texts and their judgement: accepted ones, case A of document 01, one of unequal disks and one with marks among them, and texts that are refused
+-- at line 1, line 2 and later, the empty text among them.
 use Prim.Native.Nat.{ℕ, zero, suc}
 use Prim.Native.String.{String}
 use mathlib.Core.List.{List, [], _∷_, _++_, map}
 use lib.ListN.{replicate}
 use Rattle.refusal.specs.Verdict.{Numbers}
-use Rattle.placement.specs.Items.{item}
+use Rattle.placement.specs.Items.{Item, item}
+use Rattle.placement.specs.Copies.{Copy, copy, markedWith}
 use Rattle.placement.specs.Rack.{disk, rackOf}
 use Rattle.placement.specs.Plan.{Plan}
 use Rattle.plan_text.specs.Ascii.{ascii}
@@ -51,14 +52,18 @@ caseAText =
     ∷ "(served 16 2)"
     ∷ [])
 
+-- Copies without marks.
+abbrev bare : List Item → List Copy
+bare items = map (markedWith 0) items
+
 -- Case A's plan.
 abbrev pub caseAPlan : Plan
 caseAPlan = record {
   rack = rackOf 3 4 6;
   copies =
-      (item 8 1 ∷ item 9 1 ∷ item 10 1 ∷ item 11 3 ∷ [])
-      ∷ (item 6 1 ∷ item 7 1 ∷ item 11 1 ∷ item 12 3 ∷ [])
-      ∷ (item 3 1 ∷ item 4 1 ∷ item 5 1 ∷ item 12 1 ∷ [])
+      bare (item 8 1 ∷ item 9 1 ∷ item 10 1 ∷ item 11 3 ∷ [])
+      ∷ bare (item 6 1 ∷ item 7 1 ∷ item 11 1 ∷ item 12 3 ∷ [])
+      ∷ bare (item 3 1 ∷ item 4 1 ∷ item 5 1 ∷ item 12 1 ∷ [])
       ∷ [];
   left = item 1 1 ∷ item 2 1 ∷ [];
 }
@@ -82,8 +87,27 @@ mixedText =
 abbrev pub mixedPlan : Plan
 mixedPlan = record {
   rack = disk 2 4 ∷ disk 4 8 ∷ [];
-  copies = (item 8 3 ∷ item 2 1 ∷ []) ∷ (item 8 5 ∷ item 1 0 ∷ item 3 0 ∷ []) ∷ [];
+  copies = bare (item 8 3 ∷ item 2 1 ∷ []) ∷ bare (item 8 5 ∷ item 1 0 ∷ item 3 0 ∷ []) ∷ [];
   left = item 9 3 ∷ [];
+}
+
+-- A text with marks, at a copy with viewers and at one without, whole.
+abbrev pub markedText : List ℕ
+markedText =
+    textLines
+    ("(rack 2 2 5)"
+    ∷ "(disk 1 (8 1 held) (65535 4))"
+    ∷ "(disk 2 (8 0) (3 0 held))"
+    ∷ "(left (8 2))"
+    ∷ "(served 5 2)"
+    ∷ [])
+
+-- Its plan.
+abbrev pub markedPlan : Plan
+markedPlan = record {
+  rack = rackOf 2 2 5;
+  copies = (copy 8 1 1 ∷ copy 65535 0 4 ∷ []) ∷ (copy 8 0 0 ∷ copy 3 1 0 ∷ []) ∷ [];
+  left = item 8 2 ∷ [];
 }
 
 -- Texts that are read.
@@ -96,6 +120,8 @@ accepted =
     ∷ plan (small ("(disk 1 (8 0))" ∷ "(left (2 0))" ∷ "(served 0 0)" ∷ [])) 1 0 0 1
     ∷ plan mixedText 2 9 3 1
     ∷ plan (textLines ("(mixed (32 65504) (1 2047) (31 63457))" ∷ "(disk 1)" ∷ "(disk 2 (7 2047))" ∷ "(disk 3)" ∷ "(left)" ∷ "(served 2047 0)" ∷ [])) 3 2047 0 0
+    ∷ plan markedText 2 5 2 1
+    ∷ plan (textLines ("(mixed (2 4) (4 8))" ∷ "(disk 1 (65535 4 held))" ∷ "(disk 2 (65535 8 held) (1 0 held))" ∷ "(left)" ∷ "(served 12 0)" ∷ [])) 2 12 0 0
     ∷ []
 
 -- Texts whose first line is refused.
@@ -135,6 +161,7 @@ refusedMixed =
     ∷ textLines ("(mixed  (2 4) (4 8))" ∷ [])
     ∷ textLines ("(mixed (2 4) (4 8)) " ∷ [])
     ∷ textLines ("(mixed 2 4 8)" ∷ [])
+    ∷ textLines ("(mixed (2 4) (4 8 held))" ∷ [])
     ∷ ascii "(mixed (2 4) (4 8))"
     ∷ [])
 
@@ -162,6 +189,29 @@ refusedAtLine2 =
     ∷ textLines ("(mixed (2 4) (4 8))" ∷ "(disk 1 (1 5))" ∷ [])
     ∷ [])
 
+-- So are these, by a mark: no space before it, two, one behind it, none of its letters, too few, too many, a capital, the mark before the viewers,
+-- alone, twice, outside the brackets, and no bracket behind it; a film with marks of its own, a film twice, too many viewers.
+abbrev pub refusedMarks : List Example
+refusedMarks =
+    map (refusedAt 2)
+    (small ("(disk 1 (7 1held))" ∷ [])
+    ∷ small ("(disk 1 (7 1  held))" ∷ [])
+    ∷ small ("(disk 1 (7 1 held ))" ∷ [])
+    ∷ small ("(disk 1 (7 1 ))" ∷ [])
+    ∷ small ("(disk 1 (7 1 hel))" ∷ [])
+    ∷ small ("(disk 1 (7 1 heldd))" ∷ [])
+    ∷ small ("(disk 1 (7 1 Held))" ∷ [])
+    ∷ small ("(disk 1 (7 held 1))" ∷ [])
+    ∷ small ("(disk 1 (7 held))" ∷ [])
+    ∷ small ("(disk 1 (7 1 held held))" ∷ [])
+    ∷ small ("(disk 1 (7 1) held)" ∷ [])
+    ∷ small ("(disk 1 (7 1 held)" ∷ [])
+    ∷ small ("(disk 1 (65543 1))" ∷ [])
+    ∷ small ("(disk 1 (65543 1 held))" ∷ [])
+    ∷ small ("(disk 1 (7 1 held) (7 1))" ∷ [])
+    ∷ small ("(disk 1 (7 3 held) (8 3 held))" ∷ [])
+    ∷ [])
+
 -- 65,537 bytes are refused 8, whatever they are; 65,536 are judged by lines.
 abbrev pub refusedByLength : List Example
 refusedByLength =
@@ -177,6 +227,7 @@ refusedLater =
     ∷ refusedAt 3 (small ("(disk 1)" ∷ "(left (2 00))" ∷ []))
     ∷ refusedAt 3 (small ("(disk 1)" ∷ "(left (0 0))" ∷ []))
     ∷ refusedAt 3 (small ("(disk 1)" ∷ "(left (2 1000001))" ∷ []))
+    ∷ refusedAt 3 (small ("(disk 1)" ∷ "(left (2 1 held))" ∷ []))
     ∷ refusedAt 4 (small ("(disk 1 (7 5))" ∷ "(left)" ∷ "(served 4 0)" ∷ []))
     ∷ refusedAt 4 (small ("(disk 1 (7 5))" ∷ "(left)" ∷ "(served 05 0)" ∷ []))
     ∷ refusedAt 4 (small ("(disk 1 (7 5))" ∷ "(left)" ∷ []))

@@ -1,10 +1,12 @@
--- Pieces of text read from the front of a list of bytes: literals, numbers, pairs. A number passes through `cap` at each digit.
+-- Pieces of text read from the front of a list of bytes: literals, numbers, pairs, copies. A number passes through `cap` at each digit.
 use Prim.Native.Nat.{ℕ, zero, suc, _+_, _-_, _*_}
 use mathlib.Core.Bool.{Bool, cond, _&&_}
 use mathlib.Core.List.{List, [], _∷_}
 use lib.Dec.{leb, eqb}
 use Rattle.placement.specs.Items.{Item, item}
-use Rattle.plan_text.specs.Text.{space, opened, closed}
+use Rattle.placement.specs.Copies.{Copy, markedWith}
+use Rattle.placement.specs.Rack.{mostPlanFilm}
+use Rattle.plan_text.specs.Text.{space, opened, closed, markEnd}
 
 -- What was read and the bytes after it, or nothing where the bytes do not fit.
 pub data Parse (A : Type 0) : Type 0 where
@@ -49,26 +51,50 @@ number cap (b ∷ bs) =
     let more = digits cap (b - 48) bs in
     cond (eqb b 48) (parsed 0 bs) (cond (isDigit b) more unparsed)
 
--- `(f a)`.
-abbrev pub pair : (ℕ → ℕ) → List ℕ → Parse Item
-pair cap text =
+-- `(f a`, as a pair or a copy begins.
+abbrev pub pairStart : (ℕ → ℕ) → List ℕ → Parse Item
+pairStart cap text =
     next (byte opened text) (λ u₁ t₁.
     next (number cap t₁) (λ film t₂.
     next (byte space t₂) (λ u₂ t₃.
-    next (number cap t₃) (λ amount t₄.
-    next (byte closed t₄) (λ u₃ t₅. parsed (item film amount) t₅)))))
+    next (number cap t₃) (λ amount t₄. parsed (item film amount) t₄))))
 
--- By the next byte: a closing bracket ends the pairs, a space leads to more.
-abbrev pub endOr : (List ℕ → Parse (List Item)) → List ℕ → Parse (List Item)
+-- `(f a)`.
+abbrev pub pair : (ℕ → ℕ) → List ℕ → Parse Item
+pair cap text = next (pairStart cap text) (λ x t₁. next (byte closed t₁) (λ u t₂. parsed x t₂))
+
+-- The mark, by how a copy ends.
+abbrev pub markRead : List ℕ → Parse ℕ
+markRead text =
+    orElse (next (byte closed text) (λ u t. parsed 0 t)) (next (literal (markEnd 1) text) (λ u t. parsed 1 t))
+
+-- The end of a copy behind its film, which a plan may have, and its viewers.
+abbrev pub copyEnd : Item → List ℕ → Parse Copy
+copyEnd x text = cond (leb (x .film) mostPlanFilm) (next (markRead text) (λ mark t. parsed (markedWith mark x) t)) unparsed
+
+-- `(f a)` or `(f a held)`.
+abbrev pub copyRead : (ℕ → ℕ) → List ℕ → Parse Copy
+copyRead cap text = next (pairStart cap text) copyEnd
+
+-- By the next byte: a closing bracket ends the line's values, a space leads to more.
+abbrev pub endOr : {A : Type 0} → (List ℕ → Parse (List A)) → List ℕ → Parse (List A)
 endOr more [] = unparsed
 endOr more (b ∷ bs) =
     let later = more bs in
     cond (eqb b closed) (parsed [] bs) (cond (eqb b space) later unparsed)
 
--- The pairs of a line and its closing bracket, at most `most` pairs.
-abbrev pub pairs : (ℕ → ℕ) → ℕ → List ℕ → Parse (List Item)
-pairs cap zero text = endOr (λ t. unparsed) text
-pairs cap (suc most) text =
+-- The values of a line, each read by `one`, and its closing bracket, at most `most` of them.
+abbrev pub spacedRead : {A : Type 0} → (List ℕ → Parse A) → ℕ → List ℕ → Parse (List A)
+spacedRead one zero text = endOr (λ t. unparsed) text
+spacedRead one (suc most) text =
     endOr
-    (λ t. next (pair cap t) (λ x after. next (pairs cap most after) (λ xs end. parsed (x ∷ xs) end)))
+    (λ t. next (one t) (λ x after. next (spacedRead one most after) (λ xs end. parsed (x ∷ xs) end)))
     text
+
+-- The pairs of a line.
+abbrev pub pairs : (ℕ → ℕ) → ℕ → List ℕ → Parse (List Item)
+pairs cap most text = spacedRead (pair cap) most text
+
+-- The copies of a disk's line.
+abbrev pub copies : (ℕ → ℕ) → ℕ → List ℕ → Parse (List Copy)
+copies cap most text = spacedRead (copyRead cap) most text

@@ -4,6 +4,7 @@ use mathlib.Core.List.{List, map, _++_}
 use lib.Dec.{leb}
 use lib.ListN.{length, drop}
 use Rattle.refusal.specs.Verdict.{Verdict, given, refused, unless, Numbers, answered, afterwards}
+use Rattle.placement.specs.Copies.{halvesOf}
 use Rattle.placement.specs.Rack.{Disk}
 use Rattle.placement.specs.Tables.{Tables, entryOf, holding}
 use Rattle.placement.specs.Plan.{Plan, servedOf, unservedOf}
@@ -57,7 +58,7 @@ answerTo v = answered toldNothing toldOf v
 
 -- "Unused copy places below N × k", which is the sum of all slots, "become zero; the left table beyond the films read is untouched."
 abbrev pub holdingPlan : Plan → Tables → Tables
-holdingPlan p t = holding (p .rack) (p .copies) (map entryOf (p .left)) t
+holdingPlan p t = holding (p .rack) (map (map halvesOf) (p .copies)) (map entryOf (p .left)) t
 
 -- The lent list has the rack's entries in front, and is untouched beyond them.
 abbrev pub holdingRack : Plan → List Disk → List Disk

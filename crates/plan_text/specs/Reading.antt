@@ -3,11 +3,12 @@ use Prim.Native.Nat.{ℕ, suc, _+_}
 use mathlib.Core.Bool.{Bool, true, cond, not, _&&_}
 use mathlib.Core.List.{List, [], _∷_, map}
 use Rattle.placement.specs.Items.{Item, total}
+use Rattle.placement.specs.Copies.{Copy, unmarked}
 use Rattle.placement.specs.Rack.{Disk, disk, rackOf, sizesInRange, mostDisks, rackAccepted, allEqual}
-use Rattle.placement.specs.Plan.{Plan, diskAccepted, leftAccepted, mostLeft}
+use Rattle.placement.specs.Plan.{Plan, copiesAccepted, leftAccepted, mostLeft}
 use Rattle.plan_text.specs.Ascii.{ascii}
 use Rattle.plan_text.specs.Text.{space, closed, lineFeed, mixedHead, diskHead, leftHead, servedLine}
-use Rattle.plan_text.specs.Parse.{Parse, parsed, unparsed, next, orElse, byte, literal, number, pairs}
+use Rattle.plan_text.specs.Parse.{Parse, parsed, unparsed, next, orElse, byte, literal, number, pairs, copies}
 
 -- What was read to the end of the text, or the number of lines before the refused one.
 pub data Reading (A : Type 0) : Type 0 where
@@ -37,7 +38,7 @@ pub record Sizes : Type 0 where
 
 -- What a text says behind its first line.
 pub record Tail : Type 0 where
-  pub copies : List (List Item)
+  pub copies : List (List Copy)
   pub left : List Item
 
 -- N, k and L are in range.
@@ -62,6 +63,10 @@ rackBody cap text =
 -- A line's head, then its pairs and closing bracket.
 abbrev pub pairsBody : (ℕ → ℕ) → List ℕ → ℕ → List ℕ → Parse (List Item)
 pairsBody cap head most text = next (literal head text) (λ u t. pairs cap most t)
+
+-- A disk line's head, then its copies and closing bracket.
+abbrev pub copiesBody : (ℕ → ℕ) → List ℕ → ℕ → List ℕ → Parse (List Copy)
+copiesBody cap head most text = next (literal head text) (λ u t. copies cap most t)
 
 -- The disk of a pair, slots then load.
 abbrev pub itemDisk : Item → Disk
@@ -99,15 +104,15 @@ readLeft cap s text =
     (line (pairsBody cap leftHead mostLeft) leftAccepted text) (λ left. readServed s (total left))
 
 -- One more disk in front.
-abbrev pub withDisk : List Item → Tail → Tail
-withDisk copies tail = record { copies = copies ∷ tail .copies; left = tail .left }
+abbrev pub withDisk : List Copy → Tail → Tail
+withDisk mine tail = record { copies = mine ∷ tail .copies; left = tail .left }
 
 -- The lines of disks, numbered from `number` on, and what follows, where the disks before serve s.
 abbrev pub readDisks : (ℕ → ℕ) → List Disk → (number s : ℕ) → List ℕ → Reading Tail
 readDisks cap [] number s text = readLeft cap s text
 readDisks cap (d ∷ ds) number s text =
-    lineThen withDisk (line (pairsBody cap (diskHead number) (d .slots)) (diskAccepted d) text)
-    (λ copies. readDisks cap ds (suc number) (s + total copies))
+    lineThen withDisk (line (copiesBody cap (diskHead number) (d .slots)) (copiesAccepted d) text)
+    (λ mine. readDisks cap ds (suc number) (s + total (map unmarked mine)))
 
 -- The rack and what stands behind its line.
 abbrev pub withRack : List Disk → Tail → Plan

@@ -1,9 +1,10 @@
--- The text of a plan, line by line as document 01 fixes it, and 02's P2 for racks of unequal disks.
-use Prim.Native.Nat.{ℕ, suc}
+-- The text of a plan, line by line as document 01 fixes it, with 02's P2 for racks of unequal disks and P4 for marked copies.
+use Prim.Native.Nat.{ℕ, zero, suc}
 use mathlib.Core.Bool.{cond}
 use mathlib.Core.List.{List, [], _∷_, _++_, map}
 use lib.ListN.{length}
 use Rattle.placement.specs.Items.{Item, item}
+use Rattle.placement.specs.Copies.{Copy}
 use Rattle.placement.specs.Rack.{Disk, firstSlots, firstLoad, allEqual}
 use Rattle.placement.specs.Plan.{Plan, servedOf, unservedOf}
 use Rattle.plan_text.specs.Ascii.{ascii}
@@ -31,10 +32,27 @@ rackLine disks slots streams =
 abbrev pub pairText : Item → List ℕ
 pairText x = opened ∷ (decimal (x .film) ++ (space ∷ (decimal (x .amount) ++ (closed ∷ []))))
 
--- The pairs of a line, each with a space before it, and the line's closing bracket.
+-- The values of a line, each with a space before it, and the line's closing bracket.
+abbrev pub spacedText : {A : Type 0} → (A → List ℕ) → List A → List ℕ
+spacedText text [] = closed ∷ []
+spacedText text (x ∷ xs) = space ∷ (text x ++ spacedText text xs)
+
+-- The pairs of a line.
 abbrev pub pairsText : List Item → List ℕ
-pairsText [] = closed ∷ []
-pairsText (x ∷ xs) = space ∷ (pairText x ++ pairsText xs)
+pairsText xs = spacedText pairText xs
+
+-- How a copy ends: with a bracket, and where it is marked with `held` before it.
+abbrev pub markEnd : ℕ → List ℕ
+markEnd zero = closed ∷ []
+markEnd (suc n) = ascii " held)"
+
+-- A copy: `(8 1)`, film, then viewers; `(8 1 held)` where it is marked.
+abbrev pub copyText : Copy → List ℕ
+copyText c = opened ∷ (decimal (c .film) ++ (space ∷ (decimal (c .viewers) ++ markEnd (c .mark))))
+
+-- The copies of a disk's line.
+abbrev pub copiesText : List Copy → List ℕ
+copiesText copies = spacedText copyText copies
 
 -- A disk as a pair: "slots then load".
 abbrev pub diskItem : Disk → Item
@@ -58,9 +76,9 @@ diskHead number = ascii "(disk " ++ decimal number
 abbrev pub leftHead : List ℕ
 leftHead = ascii "(left"
 
--- `(disk 2 (6 1) (7 1))`, or `(disk 2)` without pairs.
-abbrev pub diskLine : ℕ → List Item → List ℕ
-diskLine number copies = diskHead number ++ pairsText copies
+-- `(disk 2 (6 1) (7 1 held))`, or `(disk 2)` without copies.
+abbrev pub diskLine : ℕ → List Copy → List ℕ
+diskLine number copies = diskHead number ++ copiesText copies
 
 -- `(left (1 1) (2 1))`, or `(left)` without pairs.
 abbrev pub leftLine : List Item → List ℕ
@@ -76,7 +94,7 @@ lines [] = []
 lines (line ∷ rest) = line ++ (lineFeed ∷ lines rest)
 
 -- The lines of disks that are numbered from `number` on, and the lines after them.
-abbrev pub disksThen : ℕ → List (List Item) → List (List ℕ) → List (List ℕ)
+abbrev pub disksThen : ℕ → List (List Copy) → List (List ℕ) → List (List ℕ)
 disksThen number [] after = after
 disksThen number (copies ∷ rest) after = diskLine number copies ∷ disksThen (suc number) rest after
 

@@ -15,7 +15,7 @@ use Rattle.placement.specs.Method.{served, unserved}
 use Rattle.placement.specs.FillingOrder.{filling}
 use Rattle.placement.specs.Shelf.{shelfFilms}
 use Rattle.placement.specs.Tables.{Tables, tables, entryOf, padded, written, places}
-use Rattle.placement.specs.Planning.{Call, PlanSums, sums, recordsIn, placedIn, leftIn, planIn, verdict, answerFor, holdingCall}
+use Rattle.placement.specs.Planning.{Call, PlanSums, sums, recordsIn, placedIn, layoutIn, leftIn, verdict, answerFor, holdingCall}
 use Rattle.placement.specs.Promise.{Distinct}
 use Rattle.placement.specs.WellFormed.{CallWellFormed}
 use Rattle.placement.proofs.Conjunctions.{both-true}
@@ -27,6 +27,7 @@ use Rattle.placement.proofs.WellFormed.{accepted-usable}
 use Rattle.placement.proofs.ShelfFilms.{shelf-sum, shelf-unwanted}
 use Rattle.placement.proofs.ShelfSharing.{shelved-served}
 use Rattle.placement.proofs.ShelfPlan.{left-distinct, left-total}
+use Rattle.placement.proofs.MarkedCopies.{marked-none}
 use Rattle.placement.proofs.Calls.{call-judged, call-wellFormed}
 use Rattle.planner.specs.declared.answer.Answer.the-variants.{Planned}
 use Rattle.planner.specs.Answers.{planNumbers}
@@ -83,12 +84,14 @@ module _ (c : Call) (formed : CallWellFormed c) where
 
     -- Tables that hold the steps' results hold the plan of the call.
     pub steps-tables :
-        (exit t : Tables) → exit .copies ≡ written (places (c .rack) (planIn c .copies)) (t .copies)
-        → exit .counts ≡ written (map length (planIn c .copies)) (t .counts)
+        (exit t : Tables) → exit .copies ≡ written (places (c .rack) (layoutIn c)) (t .copies)
+        → exit .counts ≡ written (map length (layoutIn c)) (t .counts)
         → exit .left ≡ written (padded (recordCount (c .list)) (map entryOf (byFilm last))) (t .left)
         → exit ≡ holdingCall c t
     steps-tables exit t copies counts left =
-        tables-same copies counts
+        tables-same
+        (copies ∙ ap (λ (l : List (List Item)). written (places (c .rack) l) (t .copies)) (sym (marked-none (layoutIn c))))
+        (counts ∙ ap (λ (l : List (List Item)). written (map length l) (t .counts)) (sym (marked-none (layoutIn c))))
         (left ∙ ap (λ (l : List Item). written (padded (recordCount (c .list)) (map entryOf (byFilm l))) (t .left)) left-are)
 
     -- The steps' numbers are the numbers of the plan.
@@ -100,5 +103,5 @@ module _ (c : Call) (formed : CallWellFormed c) where
         (ap₂ (λ (a b : ℕ). sums a b n)
         (serves ∙ sym (shelved-served (c .rack) (shelfFilms (recordsIn c)) (placedIn c) (shelf-unwanted (recordsIn c))))
         (lacks ∙ ap total left-are ∙ left-total (c .rack) (recordsIn c) usable (formed .accepted))
-        ∙ ap (λ (m : ℕ). sums (served (planIn c .copies)) (unserved (filling (c .rack)) (listOf (recordsIn c))) m)
+        ∙ ap (λ (m : ℕ). sums (served (layoutIn c)) (unserved (filling (c .rack)) (listOf (recordsIn c))) m)
         (count ∙ ap length left-are ∙ sym (byFilm-length (leftIn c))))

@@ -21,6 +21,7 @@ ghost use Rattle.placement.specs.Tables.{tables};
 ghost use Rattle.placement.specs.Planning.{call};
 ghost use Rattle.placement.specs.PlanPromise.{PlanPromise};
 ghost use Rattle.planner.specs.Answers.{planNumbers};
+ghost use Rattle.planner.specs.Verdicts.{Judges};
 
 // Plans for a rack of disks, one number each, from the bytes of a demand list. A plan goes into the lent tables: each disk's copies from its first place on,
 // the number of copies of each disk, and what is left. A refusal changes none of them.
@@ -42,4 +43,11 @@ pub fn plan(
         return Answer::Refused(refusal);
     }
     fill_tables(rack, list, copies, counts, left)
+}
+
+// The first refusal of planning that applies, for tables of these lengths: other operations plan behind it.
+pub fn judge_call(rack: &[u64], list: &[u8], copies: usize, counts: usize, left: usize) -> Judgement
+    ensures { λ r. ⌜ Judges (call (disksIn (now (rack .entry))) (now (list .entry))) copies counts left r ⌝ }
+{
+    judge(rack, list, copies, counts, left)
 }

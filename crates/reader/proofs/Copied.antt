@@ -4,11 +4,13 @@ use mathlib.Core.Bool.{true}
 use mathlib.Core.List.{List, _++_, map}
 use Prim.Native.Nat.{ℕ}
 use lib.ListN.{length, drop, length-map}
+use Rattle.placement.specs.Items.{Item}
+use Rattle.placement.specs.Copies.{halvesOf}
 use Rattle.placement.specs.Tables.{Tables, tables, entryOf, places, written}
 use Rattle.placement.specs.Plan.{Plan, wellFormed}
-use Rattle.placement.proofs.Formed.{plan-disks, plan-lists}
+use Rattle.placement.proofs.Formed.{plan-lists}
 use Rattle.placement.proofs.Written.{written-front}
-use Rattle.placement.proofs.ReadBack.{places-length}
+use Rattle.placement.proofs.ReadBack.{plan-fits, fits-length}
 use Rattle.plan_text.specs.ReadCall.{holdingPlan}
 use Rattle.reader.specs.declared.answer.ReadAnswer.the-variants as answers
 use Rattle.reader.specs.Stored.{frontCopied, frontsCopied}
@@ -24,6 +26,10 @@ pub copied :
     → frontsCopied (p .rack) (length (p .left)) (holdingPlan p work) to ≡ holdingPlan p to
 copied p work to formed =
     ap₂ (λ (a b : List ℕ). tables a b (frontCopied (length (p .left)) (written (map entryOf (p .left)) (work .left)) (to .left)))
-    (copied-written (places (p .rack) (p .copies)) (work .copies) (to .copies) _ (places-length (p .rack) (p .copies) (plan-disks p formed)))
-    (copied-written (map length (p .copies)) (work .counts) (to .counts) _ (length-map (p .copies) length ∙ plan-lists p formed))
+    (copied-written (places (p .rack) halves) (work .copies) (to .copies) _ (fits-length (p .rack) halves (plan-fits p formed)))
+    (copied-written (map length halves) (work .counts) (to .counts) _
+    (length-map halves length ∙ length-map (p .copies) (map halvesOf) ∙ plan-lists p formed))
     ∙ ap (tables _ _) (copied-written (map entryOf (p .left)) (work .left) (to .left) _ (length-map (p .left) entryOf))
+  where
+    halves : List (List Item)
+    halves = map (map halvesOf) (p .copies)

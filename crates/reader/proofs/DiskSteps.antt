@@ -1,31 +1,33 @@
 -- The loop over the disk lines: what holds before a line holds again behind it, or the line is refused.
-use mathlib.Core.Path.{_≡_, sym, ap, subst, _∙_}
+use mathlib.Core.Path.{_≡_, sym, ap, ap₂, subst, _∙_}
 use mathlib.Core.Bool.{true, false}
-use mathlib.Core.List.{List, [], _∷_, _++_}
+use mathlib.Core.List.{List, [], _∷_, _++_, map}
 use Prim.Native.Nat.{ℕ, _+_, _-_, _≤_, _<_}
 use native.Mathlib.Omega.{arith}
-use lib.ListN.{length, take, drop, set, length-set, length-take, length-drop, length-replicate}
+use lib.ListN.{length, take, drop, set, length-set, length-take, length-drop, length-map, length-replicate}
 use borrow.Rule.Slice.PartMut.{putMid, same-len-mid}
 use Rattle.placement.specs.Items.{Item}
+use Rattle.placement.specs.Copies.{Copy, unmarked, copyOf}
 use Rattle.placement.specs.Rack.{Disk, mostDisks}
-use Rattle.placement.specs.Plan.{diskAccepted}
+use Rattle.placement.specs.Plan.{diskAccepted, marksAccepted, copiesAccepted}
 use Rattle.placement.specs.Held.{front}
-use Rattle.placement.proofs.Conjunctions.{false-true}
+use Rattle.placement.proofs.Conjunctions.{both-true, false-true}
 use Rattle.placement.proofs.Racks.{accepted-disks}
 use Rattle.placement.proofs.Offsets.{diskAt}
 use Rattle.plan_text.specs.Text.{diskHead}
 use Rattle.plan_text.specs.Parse.{Parse, next}
-use Rattle.plan_text.specs.Reading.{line, pairsBody, readDisks}
+use Rattle.plan_text.specs.Reading.{line, copiesBody, readDisks}
 use Rattle.plan_text.specs.Capped.{saturated}
 use Rattle.placement.proofs.Formed.{disk-load}
+use Rattle.placement.proofs.MarkedCopies.{copied-total}
 use Rattle.reader.specs.declared.cursor.Cursor.{Cursor}
 use Rattle.reader.specs.declared.line.PairsLine.{PairsLine}
 use Rattle.reader.specs.Cursor.{place, valued}
-use Rattle.reader.specs.Line.{LineRead}
+use Rattle.reader.specs.Line.{DiskRead}
 use Rattle.reader.specs.Disks.{Filled, DisksReady, DisksRead, prefixed}
 use Rattle.reader.proofs.Pieces.{line-parsed, line-refused}
 use Rattle.reader.proofs.RackDisks.{upto, onward, next-first, places-room, load-most}
-use Rattle.reader.proofs.DiskTables.{filled-more, served-end}
+use Rattle.reader.proofs.DiskTables.{filled-more, served-end, copied-end}
 use Rattle.reader.proofs.DiskReading.{disks-more, disks-refused}
 use Rattle.reader.proofs.DisksSoFar.{SoFar}
 
@@ -50,17 +52,21 @@ module _ {text : List ℕ} {rack : List Disk} {start : Cursor} {copies₀ counts
     pub part-length : length part ≡ k
     part-length = omega (arith, length-take size (drop from copies), length-drop from copies, now .copiesLength, room)
 
-    module _ {r : PairsLine} {part′ : List ℕ} (read : LineRead (diskHead (i + 1)) (diskAccepted d) text here part part′ r) where
+    module _ {r : PairsLine} {part′ : List ℕ} (read : DiskRead (i + 1) d text here part part′ r) where
+      -- The halves that the part holds, and their copies.
       abbrev x : List Item
       x = front (r .count) part′
 
-      abbrev body : List ℕ → Parse (List Item)
-      body t = line (pairsBody saturated (diskHead (i + 1)) (d .slots)) (diskAccepted d) t
+      abbrev mine : List Copy
+      mine = map copyOf x
 
-      valued-line : valued x text (r .after) ≡ next (place text here) (λ u t. body t)
+      abbrev body : List ℕ → Parse (List Copy)
+      body t = line (copiesBody saturated (diskHead (i + 1)) (d .slots)) (copiesAccepted d) t
+
+      valued-line : valued mine text (r .after) ≡ next (place text here) (λ u t. body t)
       valued-line =
           read .reads
-          ∙ ap (λ (n : ℕ). next (place text here) (λ u t. line (pairsBody saturated (diskHead (i + 1)) n) (diskAccepted d) t))
+          ∙ ap (λ (n : ℕ). next (place text here) (λ u t. line (copiesBody saturated (diskHead (i + 1)) n) (copiesAccepted d) t))
           (part-length ∙ slots-are)
 
       -- The number of disks before it.
@@ -76,14 +82,20 @@ module _ {text : List ℕ} {rack : List Disk} {start : Cursor} {copies₀ counts
         fit = λ f. false-true (sym e ∙ f);
         stopped = λ f.
             now .reads
-            ∙ disks-refused (now .layout) (drop (here .at) text) (drop i rack) i sum d (drop (i + 1) rack)
-            (onward rack i d less is) (now .filled .number ∙ number) (line-refused text x here (r .after) body valued-line (now .fits) e);
+            ∙ disks-refused (map (map copyOf) (now .layout)) (drop (here .at) text) (drop i rack) i sum d (drop (i + 1) rack)
+            (onward rack i d less is) (length-map (now .layout) (map copyOf) ∙ now .filled .number ∙ number) (line-refused text mine here (r .after) body valued-line (now .fits) e);
       }
 
       -- What the disk's copies sum to.
       pub small : r .after .fits ≡ true → r .sum ≤ 65535
       small e =
-          omega (arith, read .summed, disk-load d x (read .passed e), load-most rack i d less is (ready .accepted))
+          omega (
+            arith,
+            read .summed,
+            copied-total x,
+            disk-load d (map unmarked mine) (both-true (diskAccepted d (map unmarked mine)) (marksAccepted mine) (read .passed e) .0),
+            load-most rack i d less is (ready .accepted),
+          )
 
       -- The line fits.
       pub so-far-more :
@@ -107,9 +119,9 @@ module _ {text : List ℕ} {rack : List Disk} {start : Cursor} {copies₀ counts
         sumIs = omega (arith, now .sumIs, read .summed, served-end (now .layout) x);
         reads =
             now .reads
-            ∙ disks-more (now .layout) (drop (here .at) text) (drop i rack) i sum d (drop (i + 1) rack)
-            (onward rack i d less is) x (drop (r .after .at) text) (line-parsed text x here (r .after) body valued-line (now .fits) e)
-            ∙ ap
-            (λ (s : ℕ). prefixed (now .layout ++ (x ∷ [])) (readDisks saturated (drop (i + 1) rack) ((i + 1) + 1) s (drop (r .after .at) text)))
-            (ap (λ (n : ℕ). sum + n) (sym (read .summed)));
+            ∙ disks-more (map (map copyOf) (now .layout)) (drop (here .at) text) (drop i rack) i sum d (drop (i + 1) rack)
+            (onward rack i d less is) mine (drop (r .after .at) text) (line-parsed text mine here (r .after) body valued-line (now .fits) e)
+            ∙ ap₂
+            (λ (l : List (List Copy)) (s : ℕ). prefixed l (readDisks saturated (drop (i + 1) rack) ((i + 1) + 1) s (drop (r .after .at) text)))
+            (sym (copied-end (now .layout) x)) (ap (λ (n : ℕ). sum + n) (copied-total x ∙ sym (read .summed)));
       }

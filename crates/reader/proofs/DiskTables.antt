@@ -6,6 +6,7 @@ use native.Mathlib.Omega.{arith}
 use lib.ListN.{length, take, drop, set, replicate, length-append, length-map, length-replicate, take-append-drop, drop-of-length-le}
 use borrow.Rule.Slice.PartMut.{putMid}
 use Rattle.placement.specs.Items.{Item, total}
+use Rattle.placement.specs.Copies.{Copy, copyOf}
 use Rattle.placement.specs.Rack.{Disk, allSlots}
 use Rattle.placement.specs.Method.{served}
 use Rattle.placement.specs.Tables.{entryOf, padded, places, written}
@@ -37,6 +38,12 @@ served-end (y ∷ layout) x = omega (arith, served-end layout x)
 lengths-end : (layout : List (List Item)) (x : List Item) → map length (layout ++ (x ∷ [])) ≡ map length layout ++ (length x ∷ [])
 lengths-end [] x = refl
 lengths-end (y ∷ layout) x = ap (λ (r : List ℕ). length y ∷ r) (lengths-end layout x)
+
+-- The copies of one disk more stand behind the others.
+pub copied-end :
+    (layout : List (List Item)) (x : List Item) → map (map copyOf) (layout ++ (x ∷ [])) ≡ map (map copyOf) layout ++ (map copyOf x ∷ [])
+copied-end [] x = refl
+copied-end (y ∷ layout) x = ap (λ (r : List (List Copy)). map copyOf y ∷ r) (copied-end layout x)
 
 -- A part of a list of zeros is zeros.
 part-zeros : (a k m : ℕ) → a + k ≤ m → take {A = ℕ} k (drop a (replicate m 0)) ≡ replicate k 0

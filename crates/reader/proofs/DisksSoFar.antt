@@ -1,12 +1,13 @@
 -- What holds before each disk line: at first, and when no disk is left.
 use mathlib.Core.Path.{_≡_, refl, ap, sym, _∙_, subst}
 use mathlib.Core.Bool.{true}
-use mathlib.Core.List.{List, []}
+use mathlib.Core.List.{List, [], map}
 use Prim.Native.Nat.{ℕ, _+_, _*_, _≤_}
 use native.Mathlib.Omega.{arith}
 use lib.ListN.{length, take, drop, length-replicate, drop-of-length-le}
 use lib.Seq.{take-all}
 use Rattle.placement.specs.Items.{Item}
+use Rattle.placement.specs.Copies.{copyOf}
 use Rattle.placement.specs.Rack.{Disk, mostDisks, mostSlots}
 use Rattle.placement.specs.Method.{served}
 use Rattle.placement.proofs.Conjunctions.{false-true}
@@ -32,7 +33,7 @@ pub record SoFar
   pub sumIs : sum ≡ served layout
   pub reads :
       disksAt text start rack
-      ≡ prefixed layout (readDisks saturated (drop disk rack) (disk + 1) sum (drop (here .at) text))
+      ≡ prefixed (map (map copyOf) layout) (readDisks saturated (drop disk rack) (disk + 1) sum (drop (here .at) text))
 
 module _ (text : List ℕ) {rack : List Disk} {start : Cursor} {copies₀ counts₀ : List ℕ}
     (ready : DisksReady start rack copies₀ counts₀) where
@@ -64,7 +65,7 @@ so-far-done {text} {rack} {start} {copies₀} {counts₀} {copies} {counts} {her
     sum = now .sumIs;
     reads =
         now .reads
-        ∙ disks-done (now .layout) (drop (here .at) text) (drop disk rack) disk sum (drop-of-length-le rack all);
+        ∙ disks-done (map (map copyOf) (now .layout)) (drop (here .at) text) (drop disk rack) disk sum (drop-of-length-le rack all);
   };
   stopped = λ e. false-true (sym e ∙ now .fits);
 }

@@ -2,6 +2,8 @@ pub mod Classes
 pub mod Pieces
 pub mod Bytes
 pub mod PairLists
+pub mod CopyEnds
+pub mod CopyLists
 pub mod StoredPairs
 pub mod Lines
 pub mod PairLines

@@ -1,20 +1,22 @@
 -- What a whole text says, by what its lines are.
 use mathlib.Core.Path.{_≡_, refl, sym, ap, ap₂, _∙_}
 use mathlib.Core.Bool.{true, false}
-use mathlib.Core.List.{List, append-nil}
+use mathlib.Core.List.{List, map, append-nil}
 use Prim.Native.Nat.{ℕ, suc, _+_}
 use native.Mathlib.Omega.{arith}
-use lib.ListN.{length, take, drop}
+use lib.ListN.{length, take, drop, length-map}
 use lib.Seq.{length-take-le}
 use Rattle.refusal.specs.Verdict.{given}
 use Rattle.refusal.specs.declared.Refusal.the-variants.{Line}
 use Rattle.placement.specs.Items.{Item}
+use Rattle.placement.specs.Copies.{Copy, copyOf}
 use Rattle.placement.specs.Rack.{Disk, rackAccepted}
-use Rattle.placement.specs.Tables.{Tables, tables}
+use Rattle.placement.specs.Tables.{Tables, tables, places, written}
 use Rattle.placement.specs.Plan.{Plan, servedOf, unservedOf}
 use Rattle.placement.specs.Held.{front}
 use Rattle.placement.specs.Packed.{disksIn}
 use Rattle.placement.proofs.PackedRacks.{disks-length}
+use Rattle.placement.proofs.MarkedCopies.{copied-served, copied-halves}
 use Rattle.placement.proofs.ReadBack.{front-length}
 use Rattle.plan_text.specs.Parse.{Parse, parsed}
 use Rattle.plan_text.specs.Reading.{Reading, Tail, lineThen, joined, withRack, rackRead, readDisks, planRead}
@@ -80,9 +82,13 @@ module _ (text packed : List ℕ) (first : FirstLine) (firstIs : FirstRead text 
         fit : DisksFit text (first .after) rack copies counts copies′ counts′ found
         fit = disks .fit going
 
+        -- The copies of the disks.
+        abbrev found-copies : List (List Copy)
+        found-copies = map (map copyOf) (fit .layout)
+
         -- What the text says behind its disks, before what it says to the end.
         abbrev behind : Reading Tail → Reading Plan
-        behind x = joined (withRack rack) (prefixed (fit .layout) x)
+        behind x = joined (withRack rack) (prefixed found-copies x)
 
         disks-read : planRead text ≡ behind (tailAt text (found .after) (found .served))
         disks-read = rack-read ∙ ap (joined (withRack rack)) (fit .reads)
@@ -92,9 +98,9 @@ module _ (text packed : List ℕ) (first : FirstLine) (firstIs : FirstRead text 
             (after : List Disk) (entry exit : Tables) → tail .fits ≡ false
             → Judged (linesJudged (planRead text)) after entry exit (answers.Refused (Line (first .disks + tail .lines + 2)))
         plan-no-tail after entry exit e =
-            refused-at text after entry exit (suc (length (fit .layout) + tail .lines)) (first .disks + tail .lines + 2)
+            refused-at text after entry exit (suc (length found-copies + tail .lines)) (first .disks + tail .lines + 2)
             (disks-read ∙ ap behind (tailRead .stopped e))
-            (omega (arith, fit .filled .number, rack-count))
+            (omega (arith, length-map (fit .layout) (map copyOf), fit .filled .number, rack-count))
 
         -- All lines fit: the plan of the text, with the pairs that the tables hold.
         module _ (wide : length left′ ≡ length left) where
@@ -102,7 +108,7 @@ module _ (text packed : List ℕ) (first : FirstLine) (firstIs : FirstRead text 
           xs = front (tail .count) left′
 
           abbrev plan : Plan
-          plan = withRack rack (record { copies = fit .layout; left = xs })
+          plan = withRack rack (record { copies = found-copies; left = xs })
 
           abbrev answer : ReadAnswer
           answer = answers.Plan (record { disks = first .disks; served = found .served; unserved = tail .unserved; left = tail .count })
@@ -112,17 +118,18 @@ module _ (text packed : List ℕ) (first : FirstLine) (firstIs : FirstRead text 
 
           said : told (first .disks) (found .served) (tail .unserved) (tail .count) ≡ toldOf plan
           said =
-              ap₂ (λ (s u : ℕ). told (first .disks) s u (tail .count)) (fit .sum) (tailRead .sum)
+              ap₂ (λ (s u : ℕ). told (first .disks) s u (tail .count)) (fit .sum ∙ sym (copied-served (fit .layout))) (tailRead .sum)
               ∙ ap₂ (λ (n m : ℕ). told n (servedOf plan) (unservedOf plan) m) (sym rack-count) (sym left-count)
 
           whole-read : tail .fits ≡ true → linesJudged (planRead text) ≡ given plan
           whole-read e =
               ap linesJudged (disks-read ∙ ap behind (tailRead .fit e))
-              ∙ ap (λ (l : List (List Item)). given (withRack rack (record { copies = l; left = xs }))) (append-nil (fit .layout))
+              ∙ ap (λ (l : List (List Copy)). given (withRack rack (record { copies = l; left = xs }))) (append-nil found-copies)
 
           held : tables copies′ counts′ left′ ≡ holdingPlan plan (tables copies counts left)
           held =
               ap₂ (λ (a b : List ℕ). tables a b left′) (fit .filled .inCopies) (fit .filled .inCounts)
+              ∙ ap (λ (l : List (List Item)). tables (written (places rack l) copies) (written (map length l) counts) left′) (sym (copied-halves (fit .layout)))
               ∙ ap (tables _ _) (stored-written (tail .count) left left′ (tailRead .stored) wide)
 
           pub plan-fits :

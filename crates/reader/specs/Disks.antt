@@ -5,6 +5,7 @@ use mathlib.Core.Bool.{true, false}
 use mathlib.Core.List.{List, _++_, map}
 use lib.ListN.{length, drop}
 use Rattle.placement.specs.Items.{Item}
+use Rattle.placement.specs.Copies.{Copy, copyOf}
 use Rattle.placement.specs.Rack.{Disk, allSlots, rackAccepted}
 use Rattle.placement.specs.Method.{served}
 use Rattle.placement.specs.Tables.{ownTables, places, written}
@@ -21,7 +22,7 @@ pub record DisksReady (cursor : Cursor) (rack : List Disk) (copies counts : List
   pub ownCounts : counts ≡ ownTables .counts
 
 -- Disks before what a text says behind them.
-abbrev pub prefixed : List (List Item) → Reading Tail → Reading Tail
+abbrev pub prefixed : List (List Copy) → Reading Tail → Reading Tail
 prefixed layout (whole tail) = whole (record { copies = layout ++ tail .copies; left = tail .left })
 prefixed layout (refusedAfter n) = refusedAfter (length layout + n)
 
@@ -36,12 +37,12 @@ pub record Filled (disks : List Disk) (layout : List (List Item)) (copies counts
 abbrev pub disksAt : List ℕ → Cursor → List Disk → Reading Tail
 disksAt text cursor rack = readDisks saturated rack 1 0 (drop (cursor .at) text)
 
--- All disk lines fit: their copies, which the tables hold, come before what the rest says.
+-- All disk lines fit: their copies, whose halves the tables hold, come before what the rest says.
 pub record DisksFit (text : List ℕ) (cursor : Cursor) (rack : List Disk) (copies counts copies′ counts′ : List ℕ) (r : DiskLines) : Type 0 where
   pub layout : List (List Item)
   pub filled : Filled rack layout copies counts copies′ counts′
   pub sum : r .served ≡ served layout
-  pub reads : disksAt text cursor rack ≡ prefixed layout (readLeft saturated (r .served) (drop (r .after .at) text))
+  pub reads : disksAt text cursor rack ≡ prefixed (map (map copyOf) layout) (readLeft saturated (r .served) (drop (r .after .at) text))
 
 -- The disk lines fit, or one of them is refused.
 pub record DisksRead (text : List ℕ) (cursor : Cursor) (rack : List Disk) (copies counts copies′ counts′ : List ℕ) (r : DiskLines) : Type 0 where

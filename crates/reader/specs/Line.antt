@@ -2,12 +2,15 @@
 use Prim.Native.Nat.{ℕ}
 use mathlib.Core.Path.{_≡_}
 use mathlib.Core.Bool.{Bool, true, cond}
-use mathlib.Core.List.{List}
+use mathlib.Core.List.{List, map}
 use lib.ListN.{length}
 use Rattle.placement.specs.Items.{Item, total}
-use Rattle.plan_text.specs.Text.{lineFeed}
+use Rattle.placement.specs.Copies.{copyOf}
+use Rattle.placement.specs.Rack.{Disk}
+use Rattle.placement.specs.Plan.{copiesAccepted}
+use Rattle.plan_text.specs.Text.{lineFeed, diskHead}
 use Rattle.plan_text.specs.Parse.{Parse, parsed, unparsed, next, byte}
-use Rattle.plan_text.specs.Reading.{Sizes, line, pairsBody}
+use Rattle.plan_text.specs.Reading.{Sizes, line, pairsBody, copiesBody}
 use Rattle.plan_text.specs.Capped.{saturated}
 use Rattle.placement.specs.Held.{front}
 use Rattle.placement.specs.declared.rack.Rack.{Rack}
@@ -37,3 +40,12 @@ pub record LineRead (head : List ℕ) (test : List Item → Bool) (text : List �
   pub stored : Stored (r .count) entries entries′
   pub summed : r .sum ≡ total (front (r .count) entries′)
   pub passed : r .after .fits ≡ true → test (front (r .count) entries′) ≡ true
+
+-- A disk's line, with as many copies as there are places, which stand as halves, with the test of the copies and their sum.
+pub record DiskRead (number : ℕ) (d : Disk) (text : List ℕ) (cursor : Cursor) (entries entries′ : List ℕ) (r : PairsLine) : Type 0 where
+  pub reads :
+      valued (map copyOf (front (r .count) entries′)) text (r .after)
+      ≡ next (place text cursor) (λ u t. line (copiesBody saturated (diskHead number) (length entries)) (copiesAccepted d) t)
+  pub stored : Stored (r .count) entries entries′
+  pub summed : r .sum ≡ total (front (r .count) entries′)
+  pub passed : r .after .fits ≡ true → copiesAccepted d (map copyOf (front (r .count) entries′)) ≡ true

@@ -50,7 +50,7 @@ fn mixed_line(text: &[u8], cursor: Cursor, rack: &mut [u64]) -> FirstLine
     ensures { λ r. ⌜ MixedRead (now (text .entry)) cursor (now (rack .entry)) (now (rack .exit)) r ⌝ }
 {
     let headed = eat_all(text, cursor, b"(mixed");
-    let pairs = read_pairs(text, headed, rack);
+    let pairs = read_pairs(text, headed, rack, false);
     let count = pairs.count;
     let accepted = mixed_accepted(&rack[..count]);
     let after = end_line(text, pairs.after, accepted);

@@ -17,11 +17,11 @@ ghost use lib.ListN.{length};
 ghost use Rattle.plan_text.specs.Parse.{next, literal};
 ghost use Rattle.plan_text.specs.Capped.{saturated};
 ghost use Rattle.placement.specs.Packed.{diskIn};
-ghost use Rattle.placement.specs.Plan.{diskAccepted, leftAccepted, mostLeft};
-ghost use Rattle.plan_text.specs.Text.{diskHead, leftHead, servedLine};
+ghost use Rattle.placement.specs.Plan.{leftAccepted, mostLeft};
+ghost use Rattle.plan_text.specs.Text.{leftHead, servedLine};
 ghost use Rattle.plan_text.specs.Reading.{line, rackBody, sizesAccepted};
 ghost use Rattle.reader.specs.Cursor.{place};
-ghost use Rattle.reader.specs.Line.{lineEnd, sizesOf, LineRead};
+ghost use Rattle.reader.specs.Line.{lineEnd, sizesOf, LineRead, DiskRead};
 
 // A rack that was read, and the cursor behind it.
 pub struct RackLine {
@@ -75,7 +75,7 @@ pub(crate) fn rack_line(text: &[u8], cursor: Cursor) -> RackLine
     RackLine { rack, after }
 }
 
-// A packed disk's line; its pairs are stored in the disk's places.
+// A packed disk's line; its copies are stored in the disk's places.
 pub(crate) fn disk_line(
     text: &[u8],
     cursor: Cursor,
@@ -84,12 +84,11 @@ pub(crate) fn disk_line(
     copies: &mut [u64],
 ) -> PairsLine
     requires { ⌜ length (now copies) ≡ diskIn «disk» .slots ⌝ }
-    ensures { λ r. ⌜ LineRead (diskHead number) (diskAccepted (diskIn «disk»)) (now (text .entry)) cursor
-        (now (copies .entry)) (now (copies .exit)) r ⌝ }
+    ensures { λ r. ⌜ DiskRead number (diskIn «disk») (now (text .entry)) cursor (now (copies .entry)) (now (copies .exit)) r ⌝ }
 {
     let opened = eat_all(text, cursor, b"(disk ");
     let headed = eat_number(text, opened, number as u64);
-    let pairs = read_pairs(text, headed, copies);
+    let pairs = read_pairs(text, headed, copies, true);
     let count = pairs.count;
     let sum = well_formed::total(&copies[..count]);
     let slots = disk_slots(disk);
@@ -105,7 +104,7 @@ pub(crate) fn left_line(text: &[u8], cursor: Cursor, left: &mut [u64]) -> PairsL
     ensures { λ r. ⌜ LineRead leftHead leftAccepted (now (text .entry)) cursor (now (left .entry)) (now (left .exit)) r ⌝ }
 {
     let headed = eat_all(text, cursor, b"(left");
-    let pairs = read_pairs(text, headed, left);
+    let pairs = read_pairs(text, headed, left, false);
     let count = pairs.count;
     let sum = well_formed::total(&left[..count]);
     let accepted = well_formed::left_accepted(&left[..count]);

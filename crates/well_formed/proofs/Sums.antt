@@ -10,7 +10,8 @@ use lib.Dec.{leb}
 use lib.ListN.{length, getD, take, length-map}
 use lib.Seq.{take-suc}
 use Rattle.placement.specs.Items.{total}
-use Rattle.placement.specs.Tables.{itemIn}
+use Rattle.placement.specs.Copies.{unmarked, copyOf}
+use Rattle.placement.specs.Tables.{itemIn, copiesIn}
 use Rattle.placement.proofs.Tests.{by-order}
 use Rattle.well_formed.specs.Sum.{capped}
 
@@ -20,6 +21,16 @@ few-enough s most h = le-leb (length (map itemIn s)) most (omega (arith, length-
 
 pub too-many : (s : List ℕ) (most : ℕ) → most < length s → leb (length (map itemIn s)) most ≡ false
 too-many s most h = lt-leb (length (map itemIn s)) most (omega (arith, length-map s itemIn))
+
+-- There are as many copies.
+copies-count : (s : List ℕ) → length (map unmarked (copiesIn s)) ≡ length s
+copies-count s = length-map (copiesIn s) unmarked ∙ length-map (map itemIn s) copyOf ∙ length-map s itemIn
+
+pub few-copies : (s : List ℕ) (most : ℕ) → length s ≤ most → leb (length (map unmarked (copiesIn s))) most ≡ true
+few-copies s most h = le-leb (length (map unmarked (copiesIn s))) most (omega (arith, copies-count s))
+
+pub many-copies : (s : List ℕ) (most : ℕ) → most < length s → leb (length (map unmarked (copiesIn s))) most ≡ false
+many-copies s most h = lt-leb (length (map unmarked (copiesIn s))) most (omega (arith, copies-count s))
 
 -- One entry behind others adds its amount.
 total-last : (es : List ℕ) (e : ℕ) → total (map itemIn (es ++ (e ∷ []))) ≡ total (map itemIn es) + itemIn e .amount

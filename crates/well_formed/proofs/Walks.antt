@@ -6,14 +6,15 @@ use Prim.Native.Nat.{ℕ, _+_, _<_}
 use native.Mathlib.Numerals.{add-one}
 use native.Mathlib.Omega.{arith}
 use borrow.Author.Tests.{ne-eqb}
-use lib.Dec.{eqb, ltb}
+use lib.Dec.{leb, ltb, eqb}
 use lib.ListN.{length, getD, drop}
 use lib.Seq.{drop-cons}
 use Rattle.placement.specs.Items.{Item, occurrences}
+use Rattle.placement.specs.Copies.{unmarked}
 use Rattle.placement.specs.Rack.{allLike}
 use Rattle.placement.specs.Packed.{diskIn, disksIn}
-use Rattle.placement.specs.Tables.{itemIn}
-use Rattle.placement.specs.Plan.{every, distinctFilms, ascendingAbove}
+use Rattle.placement.specs.Tables.{itemIn, copyIn, copiesIn}
+use Rattle.placement.specs.Plan.{every, distinctFilms, marksAccepted, ascendingAbove}
 use Rattle.placement.proofs.Conjunctions.{first-fails, second-decides}
 use Rattle.plan_text.specs.Held.{allZero}
 
@@ -46,6 +47,24 @@ everyWalk test = record {
   step = λ e es. refl;
 }
 
+-- Every copy, without its mark, passes a test.
+abbrev pub everyCopyWalk : (Item → Bool) → Walk
+everyCopyWalk test = record {
+  whole = λ es. every test (map unmarked (copiesIn es));
+  first = λ e es. test (unmarked (copyIn e));
+  rest = λ e es. every test (map unmarked (copiesIn es));
+  step = λ e es. refl;
+}
+
+-- Every mark is 0 or 1.
+abbrev pub marksWalk : Walk
+marksWalk = record {
+  whole = λ es. marksAccepted (copiesIn es);
+  first = λ e es. leb (copyIn e .mark) 1;
+  rest = λ e es. marksAccepted (copiesIn es);
+  step = λ e es. refl;
+}
+
 -- Every place is zero.
 abbrev pub zeroWalk : Walk
 zeroWalk = record { whole = allZero; first = λ e es. eqb e 0; rest = λ e es. allZero es; step = λ e es. refl }
@@ -59,12 +78,12 @@ likeWalk slots load = record {
   step = λ e es. refl;
 }
 
--- No film stands twice.
+-- No copies have one film.
 abbrev pub distinctWalk : Walk
 distinctWalk = record {
-  whole = λ es. distinctFilms (map itemIn es);
-  first = λ e es. eqb (occurrences (itemIn e .film) (map itemIn es)) 0;
-  rest = λ e es. distinctFilms (map itemIn es);
+  whole = λ es. distinctFilms (map unmarked (copiesIn es));
+  first = λ e es. eqb (occurrences (copyIn e .film) (map unmarked (copiesIn es))) 0;
+  rest = λ e es. distinctFilms (map unmarked (copiesIn es));
   step = λ e es. refl;
 }
 
@@ -84,11 +103,11 @@ none-of false n =
     let zero-first : 0 + n ≡ n = omega arith in
     ap (λ (m : ℕ). eqb m 0) zero-first
 
--- A film is absent.
+-- No copy has a film.
 abbrev pub absentWalk : ℕ → Walk
 absentWalk film = record {
-  whole = λ es. eqb (occurrences film (map itemIn es)) 0;
-  first = λ e es. not (eqb film (itemIn e .film));
-  rest = λ e es. eqb (occurrences film (map itemIn es)) 0;
-  step = λ e es. none-of (eqb film (itemIn e .film)) (occurrences film (map itemIn es));
+  whole = λ es. eqb (occurrences film (map unmarked (copiesIn es))) 0;
+  first = λ e es. not (eqb film (copyIn e .film));
+  rest = λ e es. eqb (occurrences film (map unmarked (copiesIn es))) 0;
+  step = λ e es. none-of (eqb film (copyIn e .film)) (occurrences film (map unmarked (copiesIn es)));
 }

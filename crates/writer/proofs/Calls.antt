@@ -6,8 +6,9 @@ use native.Mathlib.Omega.{arith}
 use borrow.Author.Tests.{leb-true}
 use lib.Dec.{leb}
 use lib.ListN.{length}
+use Rattle.placement.specs.Copies.{layoutOf}
 use Rattle.placement.specs.Rack.{allSlots, rackAccepted}
-use Rattle.placement.specs.Plan.{wellFormed, disksAccepted, leftAccepted}
+use Rattle.placement.specs.Plan.{wellFormed, disksAccepted, allMarksAccepted, leftAccepted}
 use Rattle.placement.specs.Held.{leftHeld}
 use Rattle.placement.proofs.Conjunctions.{both-true}
 use Rattle.plan_text.specs.Text.{textOf}
@@ -16,10 +17,11 @@ use Rattle.plan_text.specs.WriteCall.{WriteCall, roomStated, planOf, wellFormed
 use Rattle.plan_text.proofs.LongestText.{text-length}
 use Rattle.writer.specs.Call.{disksFormed, CopyRoom}
 
--- A test that holds drops out of a chain of four.
-regrouped : (u r a l : Bool) → r ≡ true → (u && (r && (a && l))) ≡ ((u && a) && l)
-regrouped true r a l p = rw p
-regrouped false r a l p = refl
+-- A test that holds drops out of a chain of five.
+regrouped : (u r a m l : Bool) → r ≡ true → (u && (r && (a && (m && l)))) ≡ ((u && (a && m)) && l)
+regrouped true r true m l p = rw p
+regrouped true r false m l p = rw p
+regrouped false r a m l p = refl
 
 module _ (c : WriteCall) where
   -- The tests of the disks, then that of what is left, decide whether the plan is well formed.
@@ -28,7 +30,7 @@ module _ (c : WriteCall) where
       → wellFormedCall c ≡ (disksFormed (c .rack) (c .tables .copies) (c .tables .counts) && leftAccepted (leftHeld (c .left) (c .tables)))
   formed-call accepted =
       regrouped (unusedZeroFrom (c .rack) (c .tables .copies) (c .tables .counts)) (rackAccepted (c .rack))
-      (disksAccepted (c .rack) (planOf c .copies)) (leftAccepted (leftHeld (c .left) (c .tables))) accepted
+      (disksAccepted (c .rack) (layoutOf (planOf c .copies))) (allMarksAccepted (planOf c .copies)) (leftAccepted (leftHeld (c .left) (c .tables))) accepted
 
   module _ (room : roomStated c ≡ true) where
     -- The tests of the count table and the left table.

@@ -9,11 +9,12 @@ use borrow.Author.Tests.{leb-true}
 use lib.Dec.{leb}
 use lib.ListN.{length, take, drop, getD, length-drop, drop-of-length-le}
 use lib.Seq.{drop-drop, take-all}
+use Rattle.placement.specs.Copies.{unmarked, layoutOf, copyOf}
 use Rattle.placement.specs.Rack.{Disk}
-use Rattle.placement.specs.Tables.{itemIn}
+use Rattle.placement.specs.Tables.{copiesIn}
 use Rattle.placement.specs.Packed.{diskIn, disksIn}
-use Rattle.placement.specs.Held.{front, copiesFrom}
-use Rattle.placement.specs.Plan.{diskAccepted, disksAccepted}
+use Rattle.placement.specs.Held.{front, copiesFrom, markedFrom}
+use Rattle.placement.specs.Plan.{diskAccepted, disksAccepted, marksAccepted, copiesAccepted, allMarksAccepted}
 use Rattle.placement.proofs.Conjunctions.{both-true, false-true}
 use Rattle.placement.proofs.Offsets.{offset, diskAt, offset-next, offset-room, copies-from}
 use Rattle.placement.proofs.PackedRacks.{disks-length, disk-packed}
@@ -29,7 +30,7 @@ part-from xs a = take-all (length xs - a) (drop a xs) (omega (arith, length-drop
 
 -- What one disk's places are tested for.
 abbrev pub diskFormed : Disk → ℕ → List ℕ → Bool
-diskFormed d n places = unusedZero (d .slots) n places && diskAccepted d (front n places)
+diskFormed d n places = unusedZero (d .slots) n places && copiesAccepted d (map copyOf (front n places))
 
 -- Two conjunctions, taken disk by disk.
 by-disk : (u us x xs : Bool) → ((u && us) && (x && xs)) ≡ ((u && x) && (us && xs))
@@ -47,8 +48,13 @@ formed-from :
 formed-from [] copies counts d h g = absurd (omega arith)
 formed-from (x ∷ xs) copies [] d h g = absurd (omega arith)
 formed-from (x ∷ xs) copies (n ∷ counts) zero h g =
-    by-disk (unusedZero (x .slots) n copies) (unusedZeroFrom xs (drop (x .slots) copies) counts) (diskAccepted x (front n copies))
-    (disksAccepted xs (copiesFrom xs (drop (x .slots) copies) counts))
+    let mine = map copyOf (front n copies) in
+    let later = markedFrom xs (drop (x .slots) copies) counts in
+    let unused = unusedZero (x .slots) n copies && unusedZeroFrom xs (drop (x .slots) copies) counts in
+    ap (λ (b : Bool). unused && b)
+    (by-disk (diskAccepted x (map unmarked mine)) (disksAccepted xs (layoutOf later)) (marksAccepted mine) (allMarksAccepted later))
+    ∙ by-disk (unusedZero (x .slots) n copies) (unusedZeroFrom xs (drop (x .slots) copies) counts) (copiesAccepted x mine)
+    (disksAccepted xs (layoutOf later) && allMarksAccepted later)
 formed-from (x ∷ xs) copies (n ∷ counts) (suc d) h g = formed-from xs copies counts d (omega arith) (omega arith)
 
 -- Where the unused places are zero, no disk has more copies than slots.
@@ -104,24 +110,24 @@ module _ (rack : List ℕ) (d : ℕ) (more : d < length rack) (k : ℕ) (slots :
           ∙ ap (λ (behind : List ℕ). diskFormed (diskIn (getD rack d 0)) (getD counts d 0) (drop first copies) && disksFormed (drop (suc d) (disksIn rack)) behind (drop (suc d) counts)) (drop-drop k first copies))
 
       -- The copies from disk d on: its own, as they are lent, then those from the next disk on.
-      copies-next :
-          copiesFrom (drop d (disksIn rack)) (drop first copies) (drop d counts)
-          ≡ map itemIn (take (first + getD counts d 0 - first) (drop first copies))
-          ∷ copiesFrom (drop (d + 1) (disksIn rack)) (drop (first + k) copies) (drop (d + 1) counts)
+      pub copies-next :
+          markedFrom (drop d (disksIn rack)) (drop first copies) (drop d counts)
+          ≡ copiesIn (take (first + getD counts d 0 - first) (drop first copies))
+          ∷ markedFrom (drop (d + 1) (disksIn rack)) (drop (first + k) copies) (drop (d + 1) counts)
       copies-next =
           let count : getD counts d 0 ≡ first + getD counts d 0 - first = omega arith in
-          rw add-one (copies-from (disksIn rack) (drop first copies) counts d inside counted
+          rw add-one (ap (map (map copyOf)) (copies-from (disksIn rack) (drop first copies) counts d inside counted
           ∙ ap₂ (λ (m s : ℕ). front m (drop first copies) ∷ copiesFrom (drop (suc d) (disksIn rack)) (drop s (drop first copies)) (drop (suc d) counts)) count slots-here
-          ∙ ap (λ (behind : List ℕ). front (first + getD counts d 0 - first) (drop first copies) ∷ copiesFrom (drop (suc d) (disksIn rack)) behind (drop (suc d) counts)) (drop-drop k first copies))
+          ∙ ap (λ (behind : List ℕ). front (first + getD counts d 0 - first) (drop first copies) ∷ copiesFrom (drop (suc d) (disksIn rack)) behind (drop (suc d) counts)) (drop-drop k first copies)))
 
       -- So for their lines.
       pub lines-next :
-          diskLines (d + 1) (copiesFrom (drop d (disksIn rack)) (drop first copies) (drop d counts))
-          ≡ lines (diskLine (d + 1) (map itemIn (take (first + getD counts d 0 - first) (drop first copies))) ∷ [])
-          ++ diskLines (d + 1 + 1) (copiesFrom (drop (d + 1) (disksIn rack)) (drop (first + k) copies) (drop (d + 1) counts))
+          diskLines (d + 1) (markedFrom (drop d (disksIn rack)) (drop first copies) (drop d counts))
+          ≡ lines (diskLine (d + 1) (copiesIn (take (first + getD counts d 0 - first) (drop first copies))) ∷ [])
+          ++ diskLines (d + 1 + 1) (markedFrom (drop (d + 1) (disksIn rack)) (drop (first + k) copies) (drop (d + 1) counts))
       lines-next =
-          let here = diskLine (d + 1) (map itemIn (take (first + getD counts d 0 - first) (drop first copies))) in
-          let behind = copiesFrom (drop (d + 1) (disksIn rack)) (drop (first + k) copies) (drop (d + 1) counts) in
+          let here = diskLine (d + 1) (copiesIn (take (first + getD counts d 0 - first) (drop first copies))) in
+          let behind = markedFrom (drop (d + 1) (disksIn rack)) (drop (first + k) copies) (drop (d + 1) counts) in
           ap (diskLines (d + 1)) copies-next
           ∙ ap (λ (number : ℕ). lines (here ∷ disksThen number behind [])) (sym (add-one (d + 1)))
           ∙ sym (line-before here (disksThen (d + 1 + 1) behind []))

@@ -2,20 +2,21 @@
 use mathlib.Core.Path.{_≡_, refl, sym, ap, ap₂, _∙_}
 use mathlib.Core.Bool.{true, false}
 use mathlib.Core.List.{List, [], _∷_, _++_, map, append-assoc}
-use Prim.Native.Nat.{ℕ, suc, _+_, _≤_, _<_}
+use Prim.Native.Nat.{ℕ, zero, suc, _+_, _≤_, _<_}
 use native.Mathlib.Numerals.{add-one}
 use lib.ListN.{length, drop, getD, drop-of-length-le}
 use lib.Seq.{drop-cons}
 use Rattle.placement.specs.Items.{Item}
+use Rattle.placement.specs.Copies.{Copy, copy}
 use Rattle.placement.specs.Rack.{firstSlots, firstLoad, allEqual}
-use Rattle.placement.specs.Tables.{itemIn}
+use Rattle.placement.specs.Tables.{itemIn, copyIn, copiesIn}
 use Rattle.placement.specs.Packed.{diskIn, disksIn}
 use Rattle.placement.specs.Plan.{Plan, servedOf, unservedOf}
 use Rattle.placement.proofs.Conjunctions.{cond-true, cond-false}
 use Rattle.placement.proofs.PackedRacks.{disks-length, first-slots, first-load}
 use Rattle.plan_text.specs.Ascii.{ascii}
 use Rattle.plan_text.specs.Decimal.{decimal}
-use Rattle.plan_text.specs.Text.{space, closed, lineFeed, pairText, pairsText, lines, disksThen, rackLine, diskItem, mixedHead, mixedLine, firstLine, diskLine, leftLine, servedLine, textOf}
+use Rattle.plan_text.specs.Text.{space, closed, lineFeed, pairText, pairsText, markEnd, copyText, copiesText, lines, disksThen, rackLine, diskItem, mixedHead, mixedLine, firstLine, diskLine, leftLine, servedLine, textOf}
 use Rattle.writer.specs.Space.{twoText, diskLines}
 
 -- What stands from i on is the element at i and what stands from i + 1 on.
@@ -32,13 +33,36 @@ pairs-next entries i h = ap (λ (l : List ℕ). pairsText (map itemIn l)) (drop-
 pub pairs-end : (entries : List ℕ) (i : ℕ) → length entries ≤ i → closed ∷ [] ≡ pairsText (map itemIn (drop i entries))
 pairs-end entries i h = sym (ap (λ (l : List ℕ). pairsText (map itemIn l)) (drop-of-length-le entries h))
 
+-- So for copies.
+pub copies-next :
+    (entries : List ℕ) (i : ℕ) → i < length entries
+    → copiesText (copiesIn (drop i entries)) ≡ (space ∷ copyText (copyIn (getD entries i 0))) ++ copiesText (copiesIn (drop (i + 1) entries))
+copies-next entries i h = ap (λ (l : List ℕ). copiesText (copiesIn l)) (drop-next entries i h)
+
+pub copies-end : (entries : List ℕ) (i : ℕ) → length entries ≤ i → closed ∷ [] ≡ copiesText (copiesIn (drop i entries))
+copies-end entries i h = sym (ap (λ (l : List ℕ). copiesText (copiesIn l)) (drop-of-length-le entries h))
+
+-- A copy is five runs.
+pub copy-runs :
+    (film viewers mark : ℕ)
+    → ascii " (" ++ (decimal film ++ ((space ∷ []) ++ (decimal viewers ++ markEnd mark))) ≡ space ∷ copyText (copy film mark viewers)
+copy-runs film viewers mark = refl
+
+-- Without a mark a copy ends in one bracket, else in `held` before it.
+pub mark-none : (mark : ℕ) → mark ≡ 0 → closed ∷ [] ≡ markEnd mark
+mark-none mark none = sym (ap markEnd none)
+
+pub mark-some : (mark : ℕ) → (mark ≡ 0 → ⊥) → ascii " held)" ≡ markEnd mark
+mark-some zero some = absurd (some refl)
+mark-some (suc mark) some = refl
+
 -- The rack line is five runs, and a disk's line four.
 pub rack-runs :
     (d k l : ℕ) → ascii "(rack " ++ (decimal d ++ ((space ∷ []) ++ (twoText k l ++ (lineFeed ∷ [])))) ≡ lines (rackLine d k l ∷ [])
 rack-runs d k l = simp append-assoc
 
 pub disk-runs :
-    (n : ℕ) (copies : List Item) → ascii "(disk " ++ (decimal n ++ (pairsText copies ++ (lineFeed ∷ []))) ≡ lines (diskLine n copies ∷ [])
+    (n : ℕ) (copies : List Copy) → ascii "(disk " ++ (decimal n ++ (copiesText copies ++ (lineFeed ∷ []))) ≡ lines (diskLine n copies ∷ [])
 disk-runs n copies = simp append-assoc
 
 -- Packed disks as pairs.
@@ -69,7 +93,7 @@ line-before line after = append-assoc line (lineFeed ∷ []) (lines after)
 
 -- The disks' lines stand before the lines after them.
 disks-before :
-    (number : ℕ) (copies : List (List Item)) (after : List (List ℕ))
+    (number : ℕ) (copies : List (List Copy)) (after : List (List ℕ))
     → diskLines number copies ++ lines after ≡ lines (disksThen number copies after)
 disks-before number [] after = refl
 disks-before number (copies ∷ rest) after =

@@ -19,6 +19,7 @@ use Rattle.placement.proofs.Racks.{accepted-allSlots}
 use Rattle.plan_text.specs.Held.{allZero, unusedPlaces, unusedZero, unusedZeroFrom}
 use Rattle.plan_text.specs.WriteCall.{WriteCall, planOf}
 use Rattle.placement.proofs.Formed.{plan-rack}
+use Rattle.placement.proofs.MarkedCopies.{copied-served}
 use Rattle.well_formed.specs.Sum.{Summed}
 use Rattle.writer.specs.Call.{Writable}
 use Rattle.writer.proofs.Calls.{room-copies, room-left, formed-unused, formed-plan}
@@ -76,6 +77,7 @@ module _ (c : WriteCall) (w : Writable c) (r : ℕ) where
       summed .plain (omega (arith, same, few, taken, length-map (take places (c .tables .copies)) itemIn))
       ∙ ap (λ (n : ℕ). total (front n (c .tables .copies))) (sym same)
       ∙ sym (served-sum (c .rack) (c .tables .copies) (c .tables .counts) (formed-unused c (w .formed)))
+      ∙ sym (copied-served (copiesFrom (c .rack) (c .tables .copies) (c .tables .counts)))
 
   -- The sum over the stated left places is U.
   pub unserved-held : c .left < 2 ^ 32 → Summed (front (c .left) (c .tables .left)) r → r ≡ unservedOf (planOf c)

@@ -4,15 +4,18 @@ use mathlib.Core.Path.{_≡_}
 use mathlib.Core.Bool.{Bool, true, _&&_}
 use mathlib.Core.List.{List}
 use lib.ListN.{length}
+use Rattle.placement.specs.Copies.{layoutOf}
 use Rattle.placement.specs.Rack.{Disk, allSlots}
-use Rattle.placement.specs.Held.{copiesFrom}
-use Rattle.placement.specs.Plan.{disksAccepted}
+use Rattle.placement.specs.Held.{markedFrom}
+use Rattle.placement.specs.Plan.{disksAccepted, allMarksAccepted}
 use Rattle.plan_text.specs.Held.{unusedZeroFrom}
 use Rattle.plan_text.specs.WriteCall.{WriteCall, roomStated, wellFormedCall}
 
--- Every disk has zero entries behind at most k copies, and its copies are accepted.
+-- Every disk has zero entries behind at most k copies, and its copies and their marks are accepted.
 abbrev pub disksFormed : List Disk → (copies counts : List ℕ) → Bool
-disksFormed rack copies counts = unusedZeroFrom rack copies counts && disksAccepted rack (copiesFrom rack copies counts)
+disksFormed rack copies counts =
+    unusedZeroFrom rack copies counts
+    && (disksAccepted rack (layoutOf (markedFrom rack copies counts)) && allMarksAccepted (markedFrom rack copies counts))
 
 -- None of the refusals 12, 13, 7 and 10 applies.
 pub record Writable (call : WriteCall) : Type 0 where

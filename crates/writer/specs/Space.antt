@@ -4,7 +4,7 @@ use mathlib.Core.Path.{_≡_}
 use mathlib.Core.List.{List, [], _∷_, _++_}
 use lib.ListN.{length}
 use lib.Seq.{sets}
-use Rattle.placement.specs.Items.{Item}
+use Rattle.placement.specs.Copies.{Copy}
 use Rattle.plan_text.specs.Decimal.{decimal}
 use Rattle.plan_text.specs.Text.{space, closed, lines, disksThen}
 
@@ -23,5 +23,5 @@ abbrev pub twoText : ℕ → ℕ → List ℕ
 twoText a b = decimal a ++ (space ∷ (decimal b ++ (closed ∷ [])))
 
 -- The lines of disks that are numbered from `number` on.
-abbrev pub diskLines : ℕ → List (List Item) → List ℕ
+abbrev pub diskLines : ℕ → List (List Copy) → List ℕ
 diskLines number copies = lines (disksThen number copies [])

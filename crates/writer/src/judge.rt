@@ -8,13 +8,15 @@ use well_formed::disk_accepted;
 use well_formed::left_accepted;
 ghost use mathlib.Core.Path.{_≡_};
 ghost use mathlib.Core.Bool.{true, _&&_};
+ghost use mathlib.Core.List.{map};
 ghost use Prim.Native.Nat.{_≤_};
 ghost use lib.ListN.{length};
+ghost use Rattle.placement.specs.Copies.{copyOf};
 ghost use Rattle.placement.specs.Rack.{disk, rackAccepted};
 ghost use Rattle.placement.specs.Packed.{disksIn};
 ghost use Rattle.placement.specs.Tables.{tables};
 ghost use Rattle.placement.specs.Held.{front};
-ghost use Rattle.placement.specs.Plan.{diskAccepted};
+ghost use Rattle.placement.specs.Plan.{copiesAccepted};
 ghost use Rattle.plan_text.specs.Held.{unusedZero};
 ghost use Rattle.plan_text.specs.WriteCall.{writeCall, roomStated, wellFormedCall};
 ghost use Rattle.writer.specs.Call.{disksFormed, CopyRoom};
@@ -23,7 +25,7 @@ ghost use Rattle.writer.specs.Call.{disksFormed, CopyRoom};
 fn disk_formed(slots: Slots, streams: Streams, count: u32, places: &[u64]) -> bool
     requires { ⌜ slots .0 ≤ length (now places) ⌝ }
     ensures { λ r. ⌜ r
-        ≡ (unusedZero (slots .0) count (now (places .entry)) && diskAccepted (disk (slots .0) (streams .0)) (front count (now (places .entry)))) ⌝ }
+        ≡ (unusedZero (slots .0) count (now (places .entry)) && copiesAccepted (disk (slots .0) (streams .0)) (map copyOf (front count (now (places .entry))))) ⌝ }
 {
     let most = slots.0;
     if most < count {

@@ -1,9 +1,10 @@
 // The pairs and the lines of a plan text, stored one after the other.
+use crate::copies::put_copies;
 use crate::number::put_byte;
 use crate::number::put_number;
 use crate::number::put_word;
 ghost use mathlib.Core.List.{[], _∷_, map};
-ghost use Rattle.placement.specs.Tables.{itemIn};
+ghost use Rattle.placement.specs.Tables.{itemIn, copiesIn};
 ghost use Rattle.placement.specs.Packed.{disksIn};
 ghost use Rattle.plan_text.specs.Text.{space, pairText, pairsText, lines, rackLine, mixedLine, diskLine, leftLine, servedLine};
 ghost use Rattle.writer.specs.Space.{Put, twoText};
@@ -64,11 +65,11 @@ pub(crate) fn put_mixed(out: &mut [u8], at: usize, rack: &[u64]) -> usize
 // Stores the line of one disk with its copies.
 pub(crate) fn put_disk(out: &mut [u8], at: usize, number: u64, copies: &[u64]) -> usize
     ensures { λ next. ⌜ Put at
-        (lines (diskLine number (map itemIn (now (copies .entry))) ∷ [])) (now (out .entry)) (now (out .exit)) next ⌝ }
+        (lines (diskLine number (copiesIn (now (copies .entry))) ∷ [])) (now (out .entry)) (now (out .exit)) next ⌝ }
 {
     let number_at = put_word(out, at, b"(disk ");
-    let pairs_at = put_number(out, number_at, number);
-    let end = put_pairs(out, pairs_at, copies);
+    let copies_at = put_number(out, number_at, number);
+    let end = put_copies(out, copies_at, copies);
     put_byte(out, end, b'\n')
 }
 

@@ -16,7 +16,7 @@ ghost use lib.ListN.{length};
 ghost use Rattle.placement.specs.Rack.{rackAccepted};
 ghost use Rattle.placement.specs.Packed.{disksIn};
 ghost use Rattle.placement.specs.Tables.{tables};
-ghost use Rattle.placement.specs.Held.{copiesFrom};
+ghost use Rattle.placement.specs.Held.{markedFrom};
 ghost use Rattle.plan_text.specs.Text.{lines, firstLine, textOf};
 ghost use Rattle.plan_text.specs.Held.{unusedZeroFrom};
 ghost use Rattle.plan_text.specs.WriteCall.{writeCall, planOf};
@@ -45,7 +45,7 @@ fn put_first(out: &mut [u8], at: usize, rack: &[u64]) -> usize
 fn put_disks(out: &mut [u8], at: usize, rack: &[u64], copies: &[u64], counts: &[u32]) -> usize
     requires { ⌜ CopyRoom (disksIn (now rack)) (now copies) (now counts) ⌝ }
     requires { ⌜ unusedZeroFrom (disksIn (now rack)) (now copies) (now counts) ≡ true ⌝ }
-    ensures { λ next. ⌜ Put at (diskLines 1 (copiesFrom (disksIn (now (rack .entry))) (now (copies .entry)) (now (counts .entry))))
+    ensures { λ next. ⌜ Put at (diskLines 1 (markedFrom (disksIn (now (rack .entry))) (now (copies .entry)) (now (counts .entry))))
         (now (out .entry)) (now (out .exit)) next ⌝ }
 {
     let mut next = at;

@@ -77,14 +77,15 @@ impl Parsed {
         cursor.bytes(b"(disk ")?;
         (cursor.number()? == disk).then_some(())?;
         let mut load = 0;
-        while let Some((film, viewers)) = cursor.pair_or_end()? {
+        while let Some((film, viewers)) = cursor.open_pair_or_end()? {
+            let mark = cursor.mark()?;
             let last = holder.get_mut(film as usize)?;
             if film == 0 || *last == disk as u8 {
                 return None;
             }
             *last = disk as u8;
             load += u64::from(viewers);
-            self.entries.push(Entry::new(film, viewers));
+            self.entries.push(Entry::new(film, viewers).with_mark(mark));
         }
         let count = self.entries.len() - self.copies;
         self.counts.push(count as u32);
@@ -197,6 +198,16 @@ impl Cursor<'_> {
     /// The line's next pair, or that the line ends here.
     #[inline]
     fn pair_or_end(&mut self) -> Option<Option<(u32, u32)>> {
+        let pair = self.open_pair_or_end()?;
+        if pair.is_some() {
+            self.bytes(b")")?;
+        }
+        Some(pair)
+    }
+
+    /// The line's next pair without its closing bracket, or that the line ends here.
+    #[inline]
+    fn open_pair_or_end(&mut self) -> Option<Option<(u32, u32)>> {
         if self.bytes(b")\n").is_some() {
             return Some(None);
         }
@@ -204,7 +215,15 @@ impl Cursor<'_> {
         let film = self.number()?;
         self.bytes(b" ")?;
         let amount = self.number()?;
-        self.bytes(b")")?;
         Some(Some((film, amount)))
+    }
+
+    /// The mark and the closing bracket of a copy.
+    #[inline]
+    fn mark(&mut self) -> Option<u16> {
+        if self.bytes(b")").is_some() {
+            return Some(0);
+        }
+        self.bytes(b" held)").map(|()| 1)
     }
 }

@@ -6,6 +6,9 @@ use crate::rack::{places, Disk, LAST_FILM, MOST_DEMAND, MOST_RECORDS};
 use crate::refusal::Refusal;
 use crate::tables::{Entry, Tables, TablesView};
 
+/// What stands behind the viewers of a marked copy.
+const HELD: &[u8] = b" held";
+
 /// What a pass over the plan found.
 struct Sums {
     served: u64,
@@ -56,13 +59,13 @@ fn judge(rack: &[Disk], tables: &TablesView) -> Option<Sums> {
         let mut load = 0;
         for &copy in copies {
             let (film, viewers) = (copy.film(), copy.amount());
-            let last = holder.get_mut(film as usize)?;
-            if film == 0 || *last == number {
+            let last = &mut holder[film as usize];
+            if film == 0 || *last == number || copy.mark() > 1 {
                 return None;
             }
             *last = number;
             load += u64::from(viewers);
-            sums.length += pair_length(film, viewers);
+            sums.length += pair_length(film, viewers) + HELD.len() * copy.mark() as usize;
         }
         if load > u64::from(disk.streams.0) || free.iter().any(|&place| place != Entry::default()) {
             return None;
@@ -92,7 +95,7 @@ fn judge_left(tables: &TablesView, sums: &mut Sums) -> Option<()> {
     }
     let mut previous = 0;
     for &entry in tables.left {
-        let (film, amount) = (entry.film(), entry.amount());
+        let (film, amount) = (entry.unmarked_film(), entry.amount());
         if film <= previous || film > LAST_FILM || amount > MOST_DEMAND {
             return None;
         }
@@ -141,7 +144,7 @@ fn put_plan(rack: &[Disk], tables: &TablesView, sums: &Sums, mut pen: Pen) {
     for (number, (_, places, count)) in (1..).zip(disks(rack, tables)) {
         pen.bytes(b"(disk ");
         pen.number(number);
-        pen.pairs(&places[..count as usize]);
+        pen.copies(&places[..count as usize]);
     }
     pen.bytes(b"(left");
     pen.pairs(tables.left);
@@ -195,13 +198,31 @@ impl Pen<'_> {
         }
     }
 
+    /// A pair without its closing bracket.
     #[inline]
-    fn pair(&mut self, first: u32, second: u32) {
+    fn open_pair(&mut self, first: u32, second: u32) {
         self.bytes(b" (");
         self.number(first);
         self.bytes(b" ");
         self.number(second);
+    }
+
+    #[inline]
+    fn pair(&mut self, first: u32, second: u32) {
+        self.open_pair(first, second);
         self.bytes(b")");
+    }
+
+    /// The copies and the end of their line.
+    fn copies(&mut self, entries: &[Entry]) {
+        for &entry in entries {
+            self.open_pair(entry.film(), entry.amount());
+            if entry.mark() == 1 {
+                self.bytes(HELD);
+            }
+            self.bytes(b")");
+        }
+        self.bytes(b")\n");
     }
 
     /// The pairs and the end of their line.

@@ -5,7 +5,7 @@
 use std::collections::{BTreeSet, HashSet};
 use std::ops::Range;
 
-use super::plan::{judge_rack, Pair, Plan};
+use super::plan::{judge_rack, viewers, Pair, Plan, StoredCopy};
 use crate::ffi::Planned;
 use crate::rack::{Disk, LAST_FILM, MOST_DEMAND, MOST_RECORDS, RECORD};
 use crate::refusal::Refusal;
@@ -16,14 +16,24 @@ type Wanted = BTreeSet<(u32, u32)>;
 
 /// Plans a demand list into the tables.
 pub fn plan(rack: &[Disk], list: &[u8], mut tables: LentTables) -> Planned {
-    let demands = match judge(rack, list, &tables) {
-        Ok(demands) => demands,
-        Err(refusal) => return refusal.into(),
-    };
-    let mut plan = by_method(rack, &demands);
-    store_shelf_copies(&mut plan, &demands);
-    tables.left[..demands.len()].fill(Entry::default());
-    plan.store(&mut tables);
+    match judge(rack, list, &tables) {
+        Ok(demands) => store(&plan_of(rack, &demands), demands.len(), &mut tables),
+        Err(refusal) => refusal.into(),
+    }
+}
+
+/// The plan of a list on a rack, without marks.
+pub fn plan_of(rack: &[Disk], demands: &[Pair]) -> Plan {
+    let mut plan = by_method(rack, demands);
+    store_shelf_copies(&mut plan, demands);
+    plan
+}
+
+/// Stores the plan of so many records, with zero entries behind its left films, and answers its
+/// numbers.
+pub fn store(plan: &Plan, records: usize, tables: &mut LentTables) -> Planned {
+    tables.left[..records].fill(Entry::default());
+    plan.store(tables);
     Planned {
         served: plan.served(),
         unserved: plan.unserved(),
@@ -33,7 +43,7 @@ pub fn plan(rack: &[Disk], list: &[u8], mut tables: LentTables) -> Planned {
 }
 
 /// The list's films and demands, or the first refusal that applies.
-fn judge(rack: &[Disk], list: &[u8], tables: &LentTables) -> Result<Vec<Pair>, Refusal> {
+pub fn judge(rack: &[Disk], list: &[u8], tables: &LentTables) -> Result<Vec<Pair>, Refusal> {
     judge_rack(rack)?;
     Refusal::unless(list.len().is_multiple_of(RECORD), 2)?;
     let demands: Vec<Pair> = list.chunks(RECORD).map(pair_in).collect();
@@ -81,27 +91,27 @@ fn by_method(rack: &[Disk], demands: &[Pair]) -> Plan {
 }
 
 /// Of the disks that are not yet filled one with the fewest slots, and of these the lowest.
-fn next_disk(rack: &[Disk], filled: &[Option<Vec<Pair>>]) -> Option<usize> {
+fn next_disk(rack: &[Disk], filled: &[Option<Vec<StoredCopy>>]) -> Option<usize> {
     let empty = (0..rack.len()).filter(|&disk| filled[disk].is_none());
     empty.min_by_key(|&disk| (rack[disk].slots, disk))
 }
 
 /// Takes one disk's copies off the list. What is over at its last film goes back.
-fn take_copies(disk: Disk, wanted: &mut Wanted) -> Vec<Pair> {
+fn take_copies(disk: Disk, wanted: &mut Wanted) -> Vec<StoredCopy> {
     let films: Vec<(u32, u32)> = wanted.iter().copied().collect();
     let window = &films[window(disk, &films)];
     for film in window {
         wanted.remove(film);
     }
-    let mut copies: Vec<Pair> = window
+    let mut copies: Vec<StoredCopy> = window
         .iter()
-        .map(|&(amount, film)| (film, amount))
+        .map(|&(amount, film)| (film, amount).into())
         .collect();
-    let sum: u32 = copies.iter().map(|copy| copy.1).sum();
+    let sum = viewers(&copies) as u32;
     if let (Some(over), Some(last)) = (sum.checked_sub(disk.streams.0), copies.last_mut()) {
-        last.1 -= over;
+        last.viewers -= over;
         if over > 0 {
-            wanted.insert((over, last.0));
+            wanted.insert((over, last.film));
         }
     }
     copies
@@ -132,7 +142,7 @@ fn store_shelf_copies(plan: &mut Plan, demands: &[Pair]) {
         let mut disks = plan.disks.iter_mut().zip(&plan.rack);
         let free = disks.find(|(copies, disk)| copies.len() < disk.slots.0 as usize);
         match free {
-            Some((copies, _)) => copies.push((film, 0)),
+            Some((copies, _)) => copies.push((film, 0).into()),
             None => plan.left.push((film, 0)),
         }
     }

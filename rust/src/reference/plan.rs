@@ -10,12 +10,41 @@ use crate::tables::{Entry, LentTables};
 /// A film, then its viewers or the amount left.
 pub type Pair = (u32, u32);
 
+/// A film on a disk with its viewers, and the mark: whether the disk held the film before.
+#[derive(Clone, Copy, Debug, PartialEq, Eq)]
+pub struct StoredCopy {
+    pub film: u32,
+    pub viewers: u32,
+    pub is_held: bool,
+}
+
+impl From<Pair> for StoredCopy {
+    /// The copy without a mark.
+    fn from((film, viewers): Pair) -> Self {
+        StoredCopy {
+            film,
+            viewers,
+            is_held: false,
+        }
+    }
+}
+
+/// Copies without marks, by film and viewers.
+pub fn unmarked(copies: &[Pair]) -> Vec<StoredCopy> {
+    copies.iter().copied().map(StoredCopy::from).collect()
+}
+
 /// A rack with each disk's copies and the left films, the disks by number.
 #[derive(Clone, Debug, PartialEq, Eq)]
 pub struct Plan {
     pub rack: Vec<Disk>,
-    pub disks: Vec<Vec<Pair>>,
+    pub disks: Vec<Vec<StoredCopy>>,
     pub left: Vec<Pair>,
+}
+
+/// The viewers of all these copies.
+pub fn viewers(copies: &[StoredCopy]) -> u64 {
+    copies.iter().map(|copy| u64::from(copy.viewers)).sum()
 }
 
 /// The sum of the second numbers.
@@ -43,12 +72,13 @@ pub fn judge_rack(rack: &[Disk]) -> Result<(), Refusal> {
 }
 
 /// At most k copies, films distinct and in range, at most L viewers in sum. A copy may have 0.
-pub fn disk_is_well_formed(disk: Disk, copies: &[Pair]) -> bool {
-    let distinct = |(at, copy): (usize, &Pair)| copies[..at].iter().all(|c| c.0 != copy.0);
+pub fn disk_is_well_formed(disk: Disk, copies: &[StoredCopy]) -> bool {
+    let distinct =
+        |(at, copy): (usize, &StoredCopy)| copies[..at].iter().all(|c| c.film != copy.film);
     copies.len() <= disk.slots.0 as usize
-        && copies.iter().all(|c| is_film(c.0))
+        && copies.iter().all(|c| is_film(c.film))
         && copies.iter().enumerate().all(distinct)
-        && total(copies) <= u64::from(disk.streams.0)
+        && viewers(copies) <= u64::from(disk.streams.0)
 }
 
 /// At most 1,024 films, strictly ascending and in range, amounts 0 to 1,000,000.
@@ -59,13 +89,13 @@ pub fn left_is_well_formed(left: &[Pair]) -> bool {
 }
 
 impl Plan {
-    /// A plan of equal disks whose text is as long as any of equal disks.
+    /// A plan of equal disks whose text is as long as any of equal disks without marks.
     pub fn largest() -> Self {
         Plan::full(Rack::largest().entries())
     }
 
-    /// A plan whose text is as long as any. Its disks differ, so one of them has fewer slots than
-    /// the most, by one.
+    /// A plan whose text is as long as any without marks. Its disks differ, so one of them has fewer
+    /// slots than the most, by one.
     pub fn largest_mixed() -> Self {
         let disk = |slots| Disk::new(Slots(slots), Streams(2_047 * slots));
         let mut rack = vec![disk(MOST_SLOTS); MOST_DISKS as usize];
@@ -77,7 +107,7 @@ impl Plan {
     /// digits, since the load admits no fourth beside the others of four.
     fn full(rack: Vec<Disk>) -> Self {
         let viewers = |slot| if slot < 3 { 10_000 } else { 1_000 };
-        let copy = |disk: u32, slot: u32| (10_000 + MOST_DISKS * slot + disk, viewers(slot));
+        let copy = |disk: u32, slot: u32| (10_000 + MOST_DISKS * slot + disk, viewers(slot)).into();
         let copies = |(number, disk): (u32, &Disk)| {
             let slots = 0..disk.slots.0;
             slots.map(|slot| copy(number, slot)).collect()
@@ -89,8 +119,15 @@ impl Plan {
         }
     }
 
+    /// The plan with a mark at each copy.
+    pub fn all_held(mut self) -> Self {
+        let copies = self.disks.iter_mut().flatten();
+        copies.for_each(|copy| copy.is_held = true);
+        self
+    }
+
     pub fn served(&self) -> u64 {
-        self.disks.iter().map(|copies| total(copies)).sum()
+        self.disks.iter().map(|copies| viewers(copies)).sum()
     }
 
     pub fn unserved(&self) -> u64 {
@@ -98,14 +135,15 @@ impl Plan {
     }
 
     /// Fills the copy table with zero entries behind each disk's copies, the count table,
-    /// and as much of the left table as there are left films.
+    /// and as much of the left table as there are left films. No copy's film is above 65,535.
     pub fn store(&self, tables: &mut LentTables) {
         tables.copies[..places(&self.rack)].fill(Entry::default());
         for (disk, copies) in self.disks.iter().enumerate() {
             let first = places(&self.rack[..disk]);
             tables.counts[disk] = copies.len() as u32;
-            for (place, &(film, viewers)) in copies.iter().enumerate() {
-                tables.copies[first + place] = Entry::new(film, viewers);
+            for (place, copy) in copies.iter().enumerate() {
+                let entry = Entry::new(copy.film, copy.viewers);
+                tables.copies[first + place] = entry.with_mark(copy.is_held.into());
             }
         }
         for (place, &(film, amount)) in self.left.iter().enumerate() {

@@ -4,7 +4,7 @@
 
 use std::ops::Range;
 
-use super::plan::{Pair, Plan};
+use super::plan::{Pair, Plan, StoredCopy};
 use crate::ffi::Planned;
 use crate::rack::{Rack, LAST_FILM, MOST_DEMAND, MOST_RECORDS, RECORD};
 use crate::refusal::Refusal;
@@ -102,15 +102,18 @@ fn store_shelf_copies(rack: Rack, plan: &mut Plan, demands: &[Pair]) {
     let slots = rack.slots.0 as usize;
     let mut unwanted: Vec<Pair> = demands.iter().copied().filter(|d| d.1 == 0).collect();
     unwanted.sort();
-    for copy in unwanted {
+    for film in unwanted {
         let lowest = plan.disks.iter_mut().find(|copies| copies.len() < slots);
-        lowest.unwrap_or(&mut plan.left).push(copy);
+        match lowest {
+            Some(copies) => copies.push(film.into()),
+            None => plan.left.push(film),
+        }
     }
     plan.left.sort();
 }
 
 /// Takes one disk's copies off the list.
-fn fill(rack: Rack, list: &mut Vec<Wanted>) -> Vec<Pair> {
+fn fill(rack: Rack, list: &mut Vec<Wanted>) -> Vec<StoredCopy> {
     let load = u64::from(rack.streams.0);
     let window: Vec<Wanted> = list
         .drain(window(list, rack.slots.0 as usize, load))
@@ -119,7 +122,7 @@ fn fill(rack: Rack, list: &mut Vec<Wanted>) -> Vec<Pair> {
     let mut room = load;
     for wanted in window {
         let viewers = wanted.amount.min(room);
-        copies.push((wanted.film, viewers as u32));
+        copies.push((wanted.film, viewers as u32).into());
         room -= viewers;
         if viewers < wanted.amount {
             list.push(Wanted {

@@ -1,7 +1,7 @@
-//! A plain reader. A line is right when its own numbers, written as the writer would write
+//! A plain reader. A line is right when its own numbers and marks, written as the writer would write
 //! them, give the line back, and when they are in range.
 
-use super::plan::{disk_is_well_formed, judge_rack, left_is_well_formed, Pair, Plan};
+use super::plan::{disk_is_well_formed, judge_rack, left_is_well_formed, Pair, Plan, StoredCopy};
 use super::writer::{disk_line, first_line, left_line, served_line};
 use crate::ffi::ReadPlan;
 use crate::rack::{Disk, Rack, Slots, Streams, MOST_BYTES};
@@ -29,11 +29,16 @@ pub fn read(text: &[u8], rack: &mut [Disk], mut tables: LentTables) -> ReadPlan 
 }
 
 fn judge(text: &[u8], entries: usize, tables: &LentTables) -> Result<Plan, Refusal> {
-    Refusal::unless(text.len() <= MOST_BYTES, 8)?;
-    let plan = plan_of(text).map_err(|second| Refusal { number: 9, second })?;
+    let plan = judge_text(text)?;
     let is_room = entries >= plan.rack.len() && tables.hold(&plan.rack, plan.left.len());
     Refusal::unless(is_room, 7)?;
     Ok(plan)
+}
+
+/// The plan whose text this is, or refusal 8 or 9.
+pub fn judge_text(text: &[u8]) -> Result<Plan, Refusal> {
+    Refusal::unless(text.len() <= MOST_BYTES, 8)?;
+    plan_of(text).map_err(|second| Refusal { number: 9, second })
 }
 
 /// The plan whose text this is, or the number of the first wrong line.
@@ -108,8 +113,23 @@ fn disks(numbers: &[u32]) -> Vec<Disk> {
     pairs(numbers).into_iter().map(disk).collect()
 }
 
-fn disk_of(disk: Disk, number: usize, line: &[u8]) -> Option<Vec<Pair>> {
-    let copies = pairs(numbers(line).get(1..)?);
+/// The copies behind the second opening bracket of a line and each further one: two numbers, and a
+/// mark where `held` stands with them.
+fn copies_of(line: &[u8]) -> Option<Vec<StoredCopy>> {
+    let forms = line.split(|&byte| byte == b'(').skip(2);
+    let copy = |form: &[u8]| match numbers(form)[..] {
+        [film, viewers] => Some(StoredCopy {
+            film,
+            viewers,
+            is_held: form.windows(4).any(|word| word == b"held"),
+        }),
+        _ => None,
+    };
+    forms.map(copy).collect()
+}
+
+fn disk_of(disk: Disk, number: usize, line: &[u8]) -> Option<Vec<StoredCopy>> {
+    let copies = copies_of(line)?;
     let same = disk_line(number, &copies).as_bytes() == line;
     (same && disk_is_well_formed(disk, &copies)).then_some(copies)
 }

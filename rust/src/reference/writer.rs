@@ -2,7 +2,7 @@
 
 use std::collections::HashSet;
 
-use super::plan::{disk_is_well_formed, judge_rack, left_is_well_formed, Pair, Plan};
+use super::plan::{disk_is_well_formed, judge_rack, left_is_well_formed, Pair, Plan, StoredCopy};
 use crate::ffi::Written;
 use crate::rack::{places, Disk};
 use crate::refusal::Refusal;
@@ -33,18 +33,19 @@ fn written(rack: &[Disk], tables: TablesView, left: u32, space: usize) -> Result
 
 /// The plan that the tables hold, if it is well formed.
 fn gather(rack: &[Disk], tables: TablesView, left: usize) -> Option<Plan> {
-    let copies = pairs(tables.copies);
-    let left = pairs(&tables.left[..left]);
     let mut disks = Vec::new();
     for (at, (&disk, &count)) in rack.iter().zip(tables.counts).enumerate() {
-        let own = &copies[places(&rack[..at])..places(&rack[..=at])];
+        let own = &tables.copies[places(&rack[..at])..places(&rack[..=at])];
         let used = own.get(..count as usize)?;
         let unused = &own[used.len()..];
-        if !disk_is_well_formed(disk, used) || unused.iter().any(|&place| place != (0, 0)) {
+        let copies = used.iter().map(copy_in).collect::<Option<Vec<_>>>()?;
+        let is_unused = |place: &Entry| (place.unmarked_film(), place.amount()) == (0, 0);
+        if !disk_is_well_formed(disk, &copies) || !unused.iter().all(is_unused) {
             return None;
         }
-        disks.push(used.to_vec());
+        disks.push(copies);
     }
+    let left = pairs(&tables.left[..left]);
     left_is_well_formed(&left).then_some(Plan {
         rack: rack.to_vec(),
         disks,
@@ -52,8 +53,23 @@ fn gather(rack: &[Disk], tables: TablesView, left: usize) -> Option<Plan> {
     })
 }
 
+/// The copy of an entry, if its mark is 0 or 1.
+fn copy_in(entry: &Entry) -> Option<StoredCopy> {
+    let is_held = match entry.mark() {
+        0 => false,
+        1 => true,
+        _ => return None,
+    };
+    Some(StoredCopy {
+        film: entry.film(),
+        viewers: entry.amount(),
+        is_held,
+    })
+}
+
+/// The films and amounts of left entries, which have no mark.
 fn pairs(entries: &[Entry]) -> Vec<Pair> {
-    let pair = |entry: &Entry| (entry.film(), entry.amount());
+    let pair = |entry: &Entry| (entry.unmarked_film(), entry.amount());
     entries.iter().map(pair).collect()
 }
 
@@ -78,8 +94,15 @@ pub fn first_line(rack: &[Disk]) -> String {
     }
 }
 
-pub fn disk_line(disk: usize, copies: &[Pair]) -> String {
-    format!("(disk {disk}{})", inner(copies))
+pub fn disk_line(disk: usize, copies: &[StoredCopy]) -> String {
+    let copies: String = copies.iter().map(copy_form).collect();
+    format!("(disk {disk}{copies})")
+}
+
+/// A copy and the space before it, with `held` where it is marked.
+fn copy_form(copy: &StoredCopy) -> String {
+    let mark = if copy.is_held { " held" } else { "" };
+    format!(" ({} {}{mark})", copy.film, copy.viewers)
 }
 
 pub fn left_line(left: &[Pair]) -> String {

@@ -14,6 +14,9 @@ const TEXT: &str = "(rack 2 2 5)\n(disk 1 (7 4))\n(disk 2)\n(left (3 9))\n(serve
 /// The same plan with copies of 0 viewers and a left film of amount 0.
 const TEXT_WITH_0: &str =
     "(rack 2 2 5)\n(disk 1 (8 0) (7 4))\n(disk 2 (8 0))\n(left (2 0) (3 9))\n(served 4 9)\n";
+/// The same plan with marks.
+const TEXT_WITH_MARKS: &str =
+    "(rack 2 2 5)\n(disk 1 (8 0 held) (7 4))\n(disk 2 (7 0 held))\n(left (3 9))\n(served 4 9)\n";
 const WRONG_LINE: &str = "no plan text has this line after the lines before it";
 
 /// What `check` says of a plan.
@@ -29,13 +32,13 @@ fn accepted(plan: &Plan) -> String {
 fn plans_are_accepted() {
     let folder = Folder::new();
     let said = "accepted: rack 2 2 5, served 4, not served 9\n";
-    for text in [TEXT, TEXT_WITH_0] {
+    for text in [TEXT, TEXT_WITH_0, TEXT_WITH_MARKS] {
         folder.write("plan.txt", text);
         assert_eq!(folder.run(&["check", "plan.txt"]).printed(), said);
         let ran = folder.run_on(&["check", "-"], text.as_bytes());
         assert_eq!(ran.printed(), said);
     }
-    for plan in [Plan::largest(), Plan::largest_mixed()] {
+    for plan in [Plan::largest(), Plan::largest_mixed().all_held()] {
         folder.write("plan.txt", text_of(&plan));
         let ran = folder.run(&["check", "plan.txt"]);
         assert_eq!(ran.printed(), accepted(&plan));
@@ -89,7 +92,7 @@ const BEHIND: [(&str, &str); 4] = [
 ];
 
 /// A part of the text, what stands in its place, the line that is refused then, and its content.
-const REPLACED: [(&str, &str, usize, &str); 13] = [
+const REPLACED: [(&str, &str, usize, &str); 16] = [
     ("(7 4)", "(7 6)", 2, "'(disk 1 (7 6))'"),
     ("(7 4)", "(7 4) (7 0)", 2, "'(disk 1 (7 4) (7 0))'"),
     ("(7 4)", "(7 4) (0 0)", 2, "'(disk 1 (7 4) (0 0))'"),
@@ -99,6 +102,9 @@ const REPLACED: [(&str, &str, usize, &str); 13] = [
         2,
         "'(disk 1 (7 4) (8 0) (9 0))'",
     ),
+    ("(7 4)", "(7 4held)", 2, "'(disk 1 (7 4held))'"),
+    ("(7 4)", "(7 4 held )", 2, "'(disk 1 (7 4 held ))'"),
+    ("(3 9)", "(3 9 held)", 4, "'(left (3 9 held))'"),
     ("(3 9)", "(3 9) (3 0)", 4, "'(left (3 9) (3 0))'"),
     ("(3 9)", "(3 1000001)", 4, "'(left (3 1000001))'"),
     ("(disk 2)", "(disk 3)", 3, "'(disk 3)'"),
@@ -188,7 +194,7 @@ fn random_texts_are_judged_as_the_reference_judges_them() {
         let mut text = text_of(&good(&mut dice, racks)).into_bytes();
         if dice.one_in(2) {
             let at = dice.below(text.len());
-            text[at] = dice.pick(b"0123456789() \nabdefrsv");
+            text[at] = dice.pick(b"0123456789() \nabdefhrsv");
         }
         folder.write("plan.txt", &text);
         let ran = folder.run(&["check", "plan.txt"]);

@@ -11,6 +11,7 @@ fn help_names_every_use_and_the_exit_statuses() {
     let uses = [
         "plan LIST",
         "plan --records FILE",
+        "plan ... --after PLAN",
         "records LIST",
         "check PLAN",
         "show PLAN",
@@ -82,44 +83,86 @@ fn the_man_page_names_every_command() {
     }
 }
 
+/// Wrong command lines, and what is said of them.
+const WRONG: [(&[&str], &str); 21] = [
+    (&[], "expected a command, see jugfjord --help"),
+    (&["plam"], "there is no command 'plam', see jugfjord --help"),
+    (
+        &["--plan"],
+        "there is no command '--plan', see jugfjord --help",
+    ),
+    (
+        &["a\nb"],
+        "there is no command 'a\\nb', see jugfjord --help",
+    ),
+    (&["plan"], "plan expects LIST, see jugfjord plan --help"),
+    (
+        &["plan", "--records"],
+        "plan expects FILE, see jugfjord plan --help",
+    ),
+    (
+        &["plan", "--records", "list.txt", "x.txt"],
+        "plan expects no further file, found 'x.txt', see jugfjord plan --help",
+    ),
+    (&["show"], "show expects PLAN, see jugfjord show --help"),
+    (
+        &["plan", "list.txt", "x.txt"],
+        "plan expects no further file, found 'x.txt', see jugfjord plan --help",
+    ),
+    (
+        &["plan", "list.txt", "-x"],
+        "plan has no option '-x', see jugfjord plan --help",
+    ),
+    (
+        &["check", "--records", "x"],
+        "check has no option '--records', see jugfjord check --help",
+    ),
+    (
+        &["records", "list.txt", "--after", "x"],
+        "records has no option '--after', see jugfjord records --help",
+    ),
+    (
+        &["plan", "list.txt", "--after"],
+        "plan expects PLAN behind --after, see jugfjord plan --help",
+    ),
+    (
+        &["plan", "list.txt", "--after", "--records"],
+        "plan expects PLAN behind --after, found '--records', see jugfjord plan --help",
+    ),
+    (
+        &["plan", "list.txt", "--after", "--", "plan.txt"],
+        "plan expects PLAN behind --after, found '--', see jugfjord plan --help",
+    ),
+    (
+        &["plan", "--after", "a", "list.txt", "--after", "b"],
+        "plan expects --after once, see jugfjord plan --help",
+    ),
+    (
+        &["plan", "--after", "plan.txt"],
+        "plan expects LIST, see jugfjord plan --help",
+    ),
+    (
+        &["plan", "--records", "--after", "plan.txt"],
+        "plan expects FILE, see jugfjord plan --help",
+    ),
+    (
+        &["plan", "list.txt", "--after", "plan.txt", "x.txt"],
+        "plan expects no further file, found 'x.txt', see jugfjord plan --help",
+    ),
+    (
+        &["plan", "list.txt", "--after=plan.txt"],
+        "plan has no option '--after=plan.txt', see jugfjord plan --help",
+    ),
+    (
+        &["plan", "-", "--after", "-"],
+        "plan expects - once, see jugfjord plan --help",
+    ),
+];
+
 #[test]
 fn wrong_usage_is_one_line() {
     let folder = Folder::with("list.txt", "rack 1 1 1\n");
-    let wrong = [
-        (&[][..], "expected a command, see jugfjord --help"),
-        (&["plam"], "there is no command 'plam', see jugfjord --help"),
-        (
-            &["--plan"],
-            "there is no command '--plan', see jugfjord --help",
-        ),
-        (
-            &["a\nb"],
-            "there is no command 'a\\nb', see jugfjord --help",
-        ),
-        (&["plan"], "plan expects LIST, see jugfjord plan --help"),
-        (
-            &["plan", "--records"],
-            "plan expects FILE, see jugfjord plan --help",
-        ),
-        (
-            &["plan", "--records", "list.txt", "x.txt"],
-            "plan expects no further file, found 'x.txt', see jugfjord plan --help",
-        ),
-        (&["show"], "show expects PLAN, see jugfjord show --help"),
-        (
-            &["plan", "list.txt", "x.txt"],
-            "plan expects no further file, found 'x.txt', see jugfjord plan --help",
-        ),
-        (
-            &["plan", "list.txt", "-x"],
-            "plan has no option '-x', see jugfjord plan --help",
-        ),
-        (
-            &["check", "--records", "x"],
-            "check has no option '--records', see jugfjord check --help",
-        ),
-    ];
-    for (arguments, words) in wrong {
+    for (arguments, words) in WRONG {
         folder
             .run(arguments)
             .failed(2, &format!("jugfjord: {words}"));

@@ -1,6 +1,8 @@
 //! Tests of the command `jugfjord`: the built command runs on files, and what it prints is
 //! compared with the plain Rust planner, writer and reader, or with lines written by hand.
 
+mod after;
+mod after_words;
 mod checking;
 mod folder;
 mod help;
@@ -11,12 +13,19 @@ mod pages;
 mod random_lists;
 mod refusals;
 mod showing;
+mod showing_marks;
 mod streams;
 mod terminal;
 
 /// Random numbers, racks, lists and plans, as the tests of the library have them.
+#[allow(dead_code)]
+#[path = "../jugfjord/damage.rs"]
+mod damage;
 #[path = "../jugfjord/dice.rs"]
 mod dice;
+#[allow(dead_code)]
+#[path = "../jugfjord/earlier.rs"]
+mod earlier;
 #[allow(dead_code)]
 #[path = "../jugfjord/guarded.rs"]
 mod guarded;

@@ -111,13 +111,13 @@ fn bad_rack(dice: &mut Dice, old: Rack) -> Rack {
 }
 
 /// The fields of a rack line.
-fn rack_lines(rack: Rack) -> Vec<Vec<String>> {
+pub fn rack_lines(rack: Rack) -> Vec<Vec<String>> {
     let sizes = [rack.disks, rack.slots.0, rack.streams.0].map(|size| size.to_string());
     vec![[&["rack".to_string()], &sizes[..]].concat()]
 }
 
 /// The fields of the lines of all disks.
-fn disk_lines(rack: &[Disk]) -> Vec<Vec<String>> {
+pub fn disk_lines(rack: &[Disk]) -> Vec<Vec<String>> {
     let sizes = |disk: &Disk| [disk.slots.0, disk.streams.0].map(|size| size.to_string());
     let line = |disk: &Disk| [&["disk".to_string()], &sizes(disk)[..]].concat();
     rack.iter().map(line).collect()
@@ -125,7 +125,7 @@ fn disk_lines(rack: &[Disk]) -> Vec<Vec<String>> {
 
 /// A list file of a rack's lines and the list, with separators, line ends, comments and padding at
 /// random.
-fn list_file(dice: &mut Dice, rack: Vec<Vec<String>>, list: &[u8]) -> String {
+pub fn list_file(dice: &mut Dice, rack: Vec<Vec<String>>, list: &[u8]) -> String {
     let numbers = list
         .chunks(4)
         .map(|bytes| bytes.try_into().expect("four bytes"));
@@ -143,7 +143,7 @@ fn list_file(dice: &mut Dice, rack: Vec<Vec<String>>, list: &[u8]) -> String {
 }
 
 /// Asserts that a run printed the plan of the reference, or said its refusal.
-fn compare(plan: &Ran, expected: &Result<String, Refusal>) {
+pub fn compare(plan: &Ran, expected: &Result<String, Refusal>) {
     match expected {
         Ok(text) => assert_eq!(plan.printed(), text),
         Err(refusal) => {

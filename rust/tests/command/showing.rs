@@ -1,6 +1,6 @@
 //! Plans for people: whole pages, and random plans taken back from their pages.
 
-use jugfjord::reference::plan::Plan;
+use jugfjord::reference::plan::{unmarked, Plan};
 use jugfjord::reference::reader::plan_of;
 use jugfjord::reference::writer::text_of;
 
@@ -12,16 +12,16 @@ use crate::racks::{disk, equal, equal_rack as rack, mixed};
 use crate::terminal::printed_on_terminal;
 
 /// The page of a plan.
-fn page(plan: &Plan) -> String {
+pub fn page(plan: &Plan) -> String {
     let folder = Folder::with("plan.txt", text_of(plan));
     folder.run(&["show", "plan.txt"]).printed().into()
 }
 
 /// A plan of two disks: film 7 on both, film 1,000 left whole, film 12 in part.
-fn small_plan() -> Plan {
+pub fn small_plan() -> Plan {
     Plan {
         rack: rack(2, 3, 40),
-        disks: vec![vec![(7, 5), (12, 35)], vec![(7, 9)]],
+        disks: vec![unmarked(&[(7, 5), (12, 35)]), unmarked(&[(7, 9)])],
         left: vec![(12, 1), (1_000, 30)],
     }
 }
@@ -51,9 +51,12 @@ fn a_small_plan_is_shown() {
 
 /// The same plan, with film 120 and a copy of film 12 that nobody watches, and without a slot for
 /// film 121.
-fn plan_with_shelf() -> Plan {
+pub fn plan_with_shelf() -> Plan {
     Plan {
-        disks: vec![vec![(7, 5), (12, 35)], vec![(12, 0), (7, 9), (120, 0)]],
+        disks: vec![
+            unmarked(&[(7, 5), (12, 35)]),
+            unmarked(&[(12, 0), (7, 9), (120, 0)]),
+        ],
         left: vec![(12, 1), (121, 0), (1_000, 30)],
         ..small_plan()
     }
@@ -136,7 +139,7 @@ fn one_disk(viewers: u32, amount: u32) -> Plan {
     };
     Plan {
         rack: rack(1, 1, 65_535),
-        disks: vec![pairs(1, viewers)],
+        disks: vec![unmarked(&pairs(1, viewers))],
         left: pairs(2, amount),
     }
 }
@@ -263,7 +266,8 @@ fn shelf_films_are_counted_below_the_sums() {
 
 #[test]
 fn the_most_shelf_films_are_shown() {
-    let copies = |disk: u32| (1..=32).map(|slot| (64 * slot + disk, 0)).collect();
+    let copy = |disk: u32, slot: u32| (64 * slot + disk, 0).into();
+    let copies = |disk| (1..=32).map(|slot| copy(disk, slot)).collect();
     let plan = Plan {
         rack: rack(64, 32, 65_535),
         disks: (0..64).map(copies).collect(),
@@ -293,7 +297,9 @@ fn the_rack_is_counted_in_words() {
 fn one_film_on_every_disk_takes_lines_that_line_up() {
     let plan = Plan {
         rack: rack(64, 32, 65_535),
-        disks: (1..=64).map(|disk| vec![(65_535, disk * 1_000)]).collect(),
+        disks: (1..=64)
+            .map(|disk| unmarked(&[(65_535, disk * 1_000)]))
+            .collect(),
         left: vec![(65_535, 1_000_000)],
     };
     let page = page(&plan);
@@ -309,7 +315,7 @@ fn copies_without_viewers_line_up_with_the_others() {
     let plan = Plan {
         rack: rack(64, 32, 65_535),
         disks: (1..=64)
-            .map(|disk| vec![(65_535, disk % 2 * 65_535)])
+            .map(|disk| unmarked(&[(65_535, disk % 2 * 65_535)]))
             .collect(),
         left: vec![(1, 0), (65_535, 1_000_000)],
     };
@@ -326,6 +332,8 @@ fn copies_without_viewers_line_up_with_the_others() {
 fn the_largest_plans_are_shown_whole() {
     for plan in [Plan::largest(), Plan::largest_mixed()] {
         assert_page_is_of(&plan, &page(&plan));
+        let held = plan.all_held();
+        assert_page_is_of(&held, &page(&held));
     }
 }
 
@@ -334,9 +342,9 @@ fn unequal_plan() -> Plan {
     Plan {
         rack: vec![disk(2, 20), disk(12, 120), disk(2, 20)],
         disks: vec![
-            vec![(7, 5), (12, 15)],
-            vec![(1_000, 60), (120, 0)],
-            vec![(7, 1)],
+            unmarked(&[(7, 5), (12, 15)]),
+            unmarked(&[(1_000, 60), (120, 0)]),
+            unmarked(&[(7, 1)]),
         ],
         left: vec![(12, 1)],
     }

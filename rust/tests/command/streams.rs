@@ -38,6 +38,25 @@ fn what_cannot_be_read_is_said() {
 }
 
 #[test]
+fn an_earlier_plan_that_cannot_be_read_gives_no_plan() {
+    let folder = folder();
+    let missing = "jugfjord: cannot read none.txt: No such file or directory (os error 2)";
+    let ran = folder.run(&["plan", "list.txt", "--after", "none.txt"]);
+    ran.failed(2, missing);
+    let directory = "jugfjord: cannot read .: Is a directory (os error 21)";
+    folder
+        .run(&["plan", "--after", ".", "list.txt"])
+        .failed(2, directory);
+    let closed = "jugfjord: cannot read standard input: Bad file descriptor (os error 9)";
+    folder
+        .shell("exec \"$0\" plan list.txt --after - <&-")
+        .failed(2, closed);
+    // The list comes first.
+    let ran = folder.run(&["plan", "gone.txt", "--after", "none.txt"]);
+    ran.failed(2, &missing.replace("none", "gone"));
+}
+
+#[test]
 fn a_read_that_fails_in_the_midst_gives_no_plan() {
     let folder = folder();
     for command in ["plan", "records"] {
@@ -55,8 +74,9 @@ fn a_read_that_fails_in_the_midst_gives_no_plan() {
 }
 
 /// Command lines that print something.
-const PRINTING: [&str; 7] = [
+const PRINTING: [&str; 8] = [
     "plan list.txt",
+    "plan list.txt --after plan.txt",
     "records list.txt",
     "check plan.txt",
     "show plan.txt",

@@ -3,7 +3,7 @@
 
 use jugfjord::ffi::{Planned, ReadPlan, Written};
 use jugfjord::rack::{records, Disk};
-use jugfjord::reference::plan::{Pair, Plan};
+use jugfjord::reference::plan::{unmarked, Pair, Plan};
 use jugfjord::tables::{Entry, OwnTables};
 
 use crate::racks::{disk, equal_rack as rack};
@@ -17,7 +17,7 @@ pub const TEXT_A: &str = "(rack 3 4 6)
 (served 16 2)
 ";
 
-const LIST_A: [Pair; 12] = [
+pub const LIST_A: [Pair; 12] = [
     (1, 1),
     (2, 1),
     (3, 1),
@@ -51,7 +51,7 @@ fn rack_mixed() -> Vec<Disk> {
 fn expect(rack: Vec<Disk>, list: &[Pair], disks: &[&[Pair]], left: &[Pair], sums: (u64, u64)) {
     let plan = Plan {
         rack: rack.clone(),
-        disks: disks.iter().map(|copies| copies.to_vec()).collect(),
+        disks: disks.iter().map(|copies| unmarked(copies)).collect(),
         left: left.to_vec(),
     };
     let mut stored = OwnTables::for_plan(&rack, list.len());

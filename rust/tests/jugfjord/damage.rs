@@ -7,7 +7,7 @@ use crate::dice::Dice;
 /// Changes a text that is not empty.
 pub type Damage = fn(&mut Dice, &mut Vec<u8>);
 
-pub const DAMAGES: [(&str, Damage); 14] = [
+pub const DAMAGES: [(&str, Damage); 16] = [
     ("byte changed", |dice, text| {
         let at = dice.below(text.len());
         text[at] = byte(dice);
@@ -65,6 +65,39 @@ pub const DAMAGES: [(&str, Damage); 14] = [
         text.extend(behind);
     }),
     ("text twice", |_, text| text.extend_from_within(..)),
+    ("mark put in", |dice, text| {
+        let start = dice.below(text.len()).max(1);
+        let ends_number = |at: &usize| text[*at] == b')' && text[*at - 1].is_ascii_digit();
+        let at = (start..text.len()).find(ends_number);
+        let at = at.unwrap_or(text.len());
+        text.splice(at..at, dice.pick(&MARKS).bytes());
+    }),
+    ("mark damaged", |dice, text| {
+        let start = dice.below(text.len());
+        let is_mark = |at: &usize| text[*at..].starts_with(HELD);
+        if let Some(at) = (start..text.len()).find(is_mark) {
+            text.splice(at..at + HELD.len(), dice.pick(&MARKS).bytes());
+        }
+    }),
+];
+
+/// What stands behind the viewers of a marked copy.
+const HELD: &[u8] = b" held";
+
+/// The mark as a text may have it, and in other forms.
+const MARKS: [&str; 12] = [
+    " held",
+    " held",
+    " held",
+    "held",
+    "  held",
+    " held ",
+    " hel",
+    " heldd",
+    " Held",
+    " held held",
+    " 1",
+    "",
 ];
 
 /// Fills a text up to so many bytes: behind it, or with digits inside.
@@ -110,7 +143,7 @@ fn byte(dice: &mut Dice) -> u8 {
     match dice.below(3) {
         0 => dice.next() as u8,
         1 => dice.pick(b"0123456789"),
-        _ => dice.pick(b"()\n \t\rrackdislefv-+.RD"),
+        _ => dice.pick(b"()\n \t\rrackdislefvh-+.RD"),
     }
 }
 

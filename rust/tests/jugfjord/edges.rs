@@ -153,7 +153,7 @@ fn texts_that_are_wrong_beside_0_are_refused() {
 }
 
 /// Asserts how each writer answers one disk of two places, the first used, and one left film.
-fn expect_written(places: [Entry; 2], left: Entry, number: u32) {
+pub fn expect_written(places: [Entry; 2], left: Entry, number: u32) {
     expect_copies_written(1, places, left, number);
 }
 
@@ -175,10 +175,13 @@ fn expect_copies_written(used: u32, places: [Entry; 2], left: Entry, number: u32
 fn all_bits_of_an_entry_count() {
     let (copy, unused, left) = (Entry::new(7, 4), Entry::default(), Entry::new(3, 9));
     expect_written([copy, unused], left, 0);
-    for film in [0, 65_536, 65_536 + 7, 1 << 31 | 7, u32::MAX] {
+    for film in [0, 65_536, 2 << 16 | 7, 1 << 31 | 7, u32::MAX] {
         expect_written([Entry::new(film, 4), unused], left, 10);
         expect_written([copy, unused], Entry::new(film, 9), 10);
     }
+    // Above film 7 a copy has the mark 1, and a left film has none.
+    expect_written([Entry::new(65_536 + 7, 4), unused], left, 0);
+    expect_written([copy, unused], Entry::new(65_536 + 3, 9), 10);
     for amount in [1 << 20 | 4, 1 << 31 | 4, u32::MAX] {
         expect_written([Entry::new(7, amount), unused], left, 10);
         expect_written([copy, unused], Entry::new(3, amount), 10);

@@ -10,7 +10,7 @@ use crate::dice::Dice;
 use crate::reading::{check, Case, Lent};
 use crate::tally::Tally;
 
-const SHORT_TEXTS: [&str; 7] = [
+const SHORT_TEXTS: [&str; 9] = [
     TEXT_A,
     TEXT_MIXED,
     "(rack 1 2 5)\n(disk 1 (7 4))\n(left (3 9))\n(served 4 9)\n",
@@ -44,6 +44,18 @@ const SHORT_TEXTS: [&str; 7] = [
 (left (9 1))
 (served 165 1)
 ",
+    "(rack 2 3 5)
+(disk 1 (7 0 held) (8 1 held) (65535 4))
+(disk 2 (1 0) (9 5 held))
+(left (7 2))
+(served 10 2)
+",
+    "(mixed (2 4) (1 2))
+(disk 1 (65535 4 held))
+(disk 2 (12 0 held))
+(left)
+(served 4 0)
+",
 ];
 
 /// Damages a text at a place. A changed byte differs in these bits.
@@ -75,6 +87,8 @@ fn readers_agree_on_damage_at_every_byte() {
     damage(text_of(&Plan::largest()).as_bytes(), 211, 1, &mut tally);
     let mixed = text_of(&Plan::largest_mixed());
     damage(mixed.as_bytes(), 211, 1, &mut tally);
+    let held = text_of(&Plan::largest_mixed().all_held());
+    damage(held.as_bytes(), 211, 1, &mut tally);
     tally.close(&[
         ("damaged text", 300_000),
         ("byte replaced", 140_000),
@@ -86,6 +100,8 @@ fn readers_agree_on_damage_at_every_byte() {
         ("accepted", 1_000),
         ("accepted with 0 viewers", 100),
         ("accepted with amount 0", 100),
+        ("accepted with marks", 300),
+        ("accepted without a mark", 300),
         ("line of the rack", 20_000),
         ("unequal disks", 300),
         ("line of a disk", 10_000),

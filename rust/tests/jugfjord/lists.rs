@@ -1,15 +1,25 @@
 //! Random demand lists, right and wrong.
 
 use jugfjord::rack::{records, Disk, LAST_FILM, MOST_DEMAND, MOST_RECORDS, RECORD};
+use jugfjord::reference::plan::Pair;
 
 use crate::dice::Dice;
 use crate::guarded::{GuardedTables, Need};
+use crate::racks::WRONG_RACKS;
+use crate::tally::Tally;
 
 /// One call of planning.
 pub struct Case {
     pub rack: Vec<Disk>,
     pub list: Vec<u8>,
     pub tables: GuardedTables,
+}
+
+/// The films and demands of a list of whole records.
+pub fn demands(list: &[u8]) -> Vec<Pair> {
+    let number = |bytes: &[u8]| u32::from_le_bytes(bytes.try_into().expect("four bytes"));
+    let pair = |record: &[u8]| (number(&record[..4]), number(&record[4..]));
+    list.chunks(RECORD).map(pair).collect()
 }
 
 /// So many distinct film numbers in no order.
@@ -146,6 +156,22 @@ pub const FAULTS: [(&str, Fault); 6] = [
         }
     }),
 ];
+
+/// Does wrong things to a third of all cases, to some of them two, and gives some a wrong rack.
+pub fn add_faults(dice: &mut Dice, case: &mut Case, need: Need, tally: &mut Tally) {
+    if dice.one_in(3) {
+        for _ in 0..dice.pick(&[1, 1, 1, 2]) {
+            let (name, fault) = dice.pick(&FAULTS);
+            fault(dice, case, need);
+            tally.count(name);
+        }
+    }
+    if dice.one_in(16) {
+        let (name, _, wrong) = dice.pick(&WRONG_RACKS);
+        wrong(dice, &mut case.rack);
+        tally.count(name);
+    }
+}
 
 /// Overwrites the film or the demand of some record.
 fn change(dice: &mut Dice, case: &mut Case, field: usize, value: u32) {

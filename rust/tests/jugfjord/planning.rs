@@ -7,7 +7,7 @@ use jugfjord::tables::{Entry, TablesView};
 
 use crate::dice::Dice;
 use crate::guarded::{GuardedTables, Need};
-use crate::lists::{good, Case, FAULTS, KINDS};
+use crate::lists::{self, add_faults, good, Case, FAULTS, KINDS};
 use crate::racks::{equal, mixed, mixed_least, tally_rack, three_numbers, Racks, WRONG_RACKS};
 use crate::shelf::Shelf;
 use crate::subjects::PLANNERS;
@@ -78,24 +78,13 @@ fn run(mut dice: Dice, racks: Racks, tally: &mut Tally) {
     tally.assert_met(&least);
 }
 
-/// A list of some kind. A third have a fault, and some of these have two.
+/// A list of some kind, at times with faults.
 fn random_case(dice: &mut Dice, racks: Racks, tally: &mut Tally) -> Case {
     let (name, kind) = dice.pick(&KINDS);
     let rack = racks(dice);
     let (mut case, need) = good(dice, rack, kind);
     tally.count(name);
-    if dice.one_in(3) {
-        for _ in 0..dice.pick(&[1, 1, 1, 2]) {
-            let (name, fault) = dice.pick(&FAULTS);
-            fault(dice, &mut case, need);
-            tally.count(name);
-        }
-    }
-    if dice.one_in(16) {
-        let (name, _, wrong) = dice.pick(&WRONG_RACKS);
-        wrong(dice, &mut case.rack);
-        tally.count(name);
-    }
+    add_faults(dice, &mut case, need, tally);
     case
 }
 
@@ -175,9 +164,9 @@ fn sum(entries: &[Entry]) -> u64 {
 }
 
 /// The demands of a list's records.
-fn demands(list: &[u8]) -> impl Iterator<Item = u64> + '_ {
-    let demand = |record: &[u8]| u32::from_le_bytes(record[4..].try_into().expect("four bytes"));
-    list.chunks(RECORD).map(demand).map(u64::from)
+fn demands(list: &[u8]) -> impl Iterator<Item = u64> {
+    let demands = lists::demands(list).into_iter();
+    demands.map(|(_, demand)| u64::from(demand))
 }
 
 /// Counts what kind of call was accepted, and what the tables hold after it.

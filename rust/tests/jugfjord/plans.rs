@@ -1,13 +1,13 @@
 //! Random plans: well formed, and wrong in each way that document 01 names.
 
 use jugfjord::rack::{Disk, LAST_FILM, MOST_DEMAND, MOST_RECORDS};
-use jugfjord::reference::plan::{Pair, Plan};
+use jugfjord::reference::plan::{Pair, Plan, StoredCopy};
 
 use crate::dice::Dice;
 use crate::lists::films;
 use crate::racks::{Racks, WRONG_RACKS};
 
-/// A well-formed plan on such a rack. Few come from the method.
+/// A well-formed plan on such a rack. Few come from the method. A half have no mark.
 pub fn good(dice: &mut Dice, racks: Racks) -> Plan {
     let rack = racks(dice);
     let disks = rack.iter().map(|&entry| disk(dice, entry)).collect();
@@ -17,12 +17,22 @@ pub fn good(dice: &mut Dice, racks: Racks) -> Plan {
         _ => dice.below(6),
     };
     let left = left(dice, count);
-    Plan { rack, disks, left }
+    let mut plan = Plan { rack, disks, left };
+    set_marks(dice, &mut plan);
+    plan
+}
+
+/// Marks none of the copies, few, half of them or all.
+pub fn set_marks(dice: &mut Dice, plan: &mut Plan) {
+    let eighths = dice.pick(&[0, 0, 0, 1, 4, 8]);
+    for copy in plan.disks.iter_mut().flatten() {
+        copy.is_held = dice.below(8) < eighths;
+    }
 }
 
 /// Copies with at most the load in sum, and often just the load. Some have no viewers, in any
 /// place of the disk.
-fn disk(dice: &mut Dice, disk: Disk) -> Vec<Pair> {
+fn disk(dice: &mut Dice, disk: Disk) -> Vec<StoredCopy> {
     let count = dice.within(0, disk.slots.0);
     let most = count.min(disk.streams.0);
     let least = dice.pick(&[0, most]);
@@ -30,10 +40,8 @@ fn disk(dice: &mut Dice, disk: Disk) -> Vec<Pair> {
     let mut viewers = viewers(dice, watched, disk.streams.0);
     viewers.resize(count as usize, 0);
     dice.shuffle(&mut viewers);
-    films(dice, count as usize)
-        .into_iter()
-        .zip(viewers)
-        .collect()
+    let films = films(dice, count as usize).into_iter();
+    films.zip(viewers).map(StoredCopy::from).collect()
 }
 
 /// The viewers of so many copies, each with some, at most the load in sum.
@@ -70,39 +78,38 @@ pub type Wrong = fn(&mut Dice, &mut Plan) -> Option<()>;
 
 /// Wrong plans that still fit the tables of their rack.
 pub const WRONG: [(&str, Wrong); 12] = [
-    ("film of a copy out of range", |dice, plan| {
-        let (film, _) = copy(dice, plan)?;
-        *film = dice.pick(&[0, LAST_FILM + 1, *film + 65_536, 1 << 31, u32::MAX]);
+    ("film 0", |dice, plan| {
+        copy(dice, plan)?.film = 0;
         Some(())
     }),
     ("film 0 without viewers", |dice, plan| {
-        *copy(dice, plan)? = (0, 0);
+        *copy(dice, plan)? = (0, 0).into();
         Some(())
     }),
     ("film twice on a disk", |dice, plan| {
         repeat_film(dice, plan).map(|_| ())
     }),
     ("film twice on a disk, without viewers", |dice, plan| {
-        repeat_film(dice, plan)?.1 = 0;
+        repeat_film(dice, plan)?.viewers = 0;
         Some(())
     }),
     ("one viewer above the load", |dice, plan| {
         let mut disks = plan.disks.iter_mut().zip(&plan.rack);
         let (copies, disk) = disks.find(|(copies, _)| !copies.is_empty())?;
         let load = disk.streams.0;
-        let others: u32 = copies[1..].iter().map(|copy| copy.1).sum();
-        copies[0].1 = load - others + dice.pick(&[1, 1, 65_536]);
+        let others: u32 = copies[1..].iter().map(|copy| copy.viewers).sum();
+        copies[0].viewers = load - others + dice.pick(&[1, 1, 65_536]);
         Some(())
     }),
     ("viewers with a high bit", |dice, plan| {
-        let (_, viewers) = copy(dice, plan)?;
+        let viewers = &mut copy(dice, plan)?.viewers;
         *viewers = dice.pick(&[*viewers + 65_536, *viewers | 1 << 31, u32::MAX]);
         Some(())
     }),
     ("viewers that pass 32 bits in sum", |_, plan| {
         let copies = &mut *plan.disks.iter_mut().find(|copies| copies.len() >= 2)?;
-        copies[0].1 = u32::MAX;
-        copies[1].1 = 1;
+        copies[0].viewers = u32::MAX;
+        copies[1].viewers = 1;
         Some(())
     }),
     ("left film out of range", |dice, plan| {
@@ -138,29 +145,35 @@ pub const WRONG: [(&str, Wrong); 12] = [
 ];
 
 /// Some copy of the plan.
-fn copy<'a>(dice: &mut Dice, plan: &'a mut Plan) -> Option<&'a mut Pair> {
+fn copy<'a>(dice: &mut Dice, plan: &'a mut Plan) -> Option<&'a mut StoredCopy> {
     let at = dice.below(plan.disks.len());
     let count = Some(plan.disks[at].len()).filter(|&count| count > 0)?;
     Some(&mut plan.disks[at][dice.below(count)])
 }
 
 /// Some disk's last copy, whose film is now that of another copy there.
-fn repeat_film<'a>(dice: &mut Dice, plan: &'a mut Plan) -> Option<&'a mut Pair> {
+fn repeat_film<'a>(dice: &mut Dice, plan: &'a mut Plan) -> Option<&'a mut StoredCopy> {
     let copies = plan.disks.iter_mut().find(|copies| copies.len() >= 2)?;
     let (last, others) = copies.split_last_mut()?;
-    last.0 = others[dice.below(others.len())].0;
+    last.film = others[dice.below(others.len())].film;
     Some(last)
 }
 
 /// Wrong plans that only a text can show.
-pub const WRONG_SHAPE: [(&str, Wrong); 4] = [
+pub const WRONG_SHAPE: [(&str, Wrong); 5] = [
+    // In a table this would be a mark.
+    ("film of a copy above 65,535", |dice, plan| {
+        let film = &mut copy(dice, plan)?.film;
+        *film = dice.pick(&[LAST_FILM + 1, *film + 65_536, 1 << 31, u32::MAX]);
+        Some(())
+    }),
     ("more copies than slots", |dice, plan| {
         let at = dice.below(plan.disks.len());
         let Disk { slots, streams } = plan.rack[at];
         let most = u32::from(slots.0 < streams.0);
         let viewers = dice.within(0, most);
         let copies = films(dice, slots.0 as usize + 1).into_iter();
-        plan.disks[at] = copies.map(|film| (film, viewers)).collect();
+        plan.disks[at] = copies.map(|film| (film, viewers).into()).collect();
         Some(())
     }),
     ("a disk too few", |_, plan| plan.disks.pop().map(|_| ())),

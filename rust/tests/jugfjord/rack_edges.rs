@@ -229,8 +229,14 @@ fn a_rack_too_short_for_the_text_is_refused_7() {
 }
 
 #[test]
-fn the_longest_texts_have_44565_bytes_and_43885_of_equal_disks() {
-    let plans = [(Plan::largest_mixed(), 44_565), (Plan::largest(), 43_885)];
+fn the_longest_texts_have_54800_bytes_and_54125_of_equal_disks() {
+    let plans = [
+        (Plan::largest_mixed().all_held(), 54_800),
+        (Plan::largest().all_held(), 54_125),
+        // Without marks.
+        (Plan::largest_mixed(), 44_565),
+        (Plan::largest(), 43_885),
+    ];
     for (plan, length) in plans {
         let text = text_of(&plan);
         assert_eq!(text.len(), length);

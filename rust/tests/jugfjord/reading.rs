@@ -10,6 +10,7 @@ use jugfjord::tables::Tables;
 use crate::damage::{fill_up, DAMAGES, LENGTHS};
 use crate::dice::Dice;
 use crate::guarded::{too_short, Guarded, GuardedTables, Need};
+use crate::marks::tally_marks;
 use crate::plans::{good, WRONG, WRONG_SHAPE};
 use crate::racks::{equal, mixed, mixed_least, tally_rack, Racks};
 use crate::shelf::Shelf;
@@ -91,6 +92,8 @@ fn run(mut dice: Dice, racks: Racks, tally: &mut Tally) {
         ("65,537 bytes", 100),
         ("accepted with 0 viewers", 20_000),
         ("accepted with amount 0", 10_000),
+        ("accepted with marks", 10_000),
+        ("accepted without a mark", 10_000),
     ];
     least.extend(DAMAGES.map(|(name, _)| (name, 5_000)));
     least.extend(WRONG.map(|(name, _)| (name, 50)));
@@ -179,6 +182,7 @@ pub fn check(case: &Case, tally: &mut Tally) {
             write_back(case, rack, read.left, &after.tables);
             tally_rack(rack, tally);
             Shelf::of(rack, &after.tables.view(), read.left).tally(tally);
+            tally_marks(rack, &after.tables.view(), tally);
         }
         _ => assert_eq!(after, case.lent),
     }

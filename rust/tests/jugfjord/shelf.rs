@@ -50,7 +50,7 @@ impl Shelf {
 }
 
 /// The copies of each disk.
-fn copies<'a>(rack: &[Disk], tables: &TablesView<'a>) -> Vec<&'a [Entry]> {
+pub fn copies<'a>(rack: &[Disk], tables: &TablesView<'a>) -> Vec<&'a [Entry]> {
     let mut rest = tables.copies;
     let mut disks = Vec::new();
     for (disk, &count) in rack.iter().zip(tables.counts) {

@@ -2,12 +2,15 @@
 
 use jugfjord::ffi::{Planned, ReadPlan, Written};
 use jugfjord::rack::Disk;
-use jugfjord::reference::{fast_reader, fast_writer, mixed_planner, reader, rolling, writer};
+use jugfjord::reference::{
+    after, fast_after, fast_reader, fast_writer, mixed_planner, reader, rolling, writer,
+};
 use jugfjord::tables::{LentTables, TablesView};
 #[cfg(feature = "library")]
 use jugfjord::wrap;
 
 pub type Planner = fn(&[Disk], &[u8], LentTables) -> Planned;
+pub type PlannerAfter = fn(&[Disk], &[u8], &[u8], LentTables) -> Planned;
 pub type Writer = fn(&[Disk], TablesView, u32, &mut [u8]) -> Written;
 pub type Reader = fn(&[u8], &mut [Disk], LentTables) -> ReadPlan;
 pub type Judge = fn(&[u8]) -> ReadPlan;
@@ -19,6 +22,14 @@ pub const PLANNERS: &[(&str, Planner)] = &[
     ("rolling by insertion", rolling::plan_by_insertion),
     #[cfg(feature = "library")]
     ("library", wrap::plan),
+];
+
+/// Planners that take an earlier plan's text behind the list.
+pub const PLANNERS_AFTER: &[(&str, PlannerAfter)] = &[
+    ("after", after::plan),
+    ("fast after", fast_after::plan),
+    #[cfg(feature = "library")]
+    ("library", wrap::plan_after),
 ];
 
 pub const WRITERS: &[(&str, Writer)] = &[

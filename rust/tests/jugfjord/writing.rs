@@ -8,6 +8,7 @@ use jugfjord::tables::Entry;
 
 use crate::dice::Dice;
 use crate::guarded::{Guarded, GuardedTables, Need};
+use crate::marks::tally_marks;
 use crate::plans::{good, WRONG};
 use crate::racks::{equal, mixed, mixed_least, tally_rack, Racks, WRONG_RACKS};
 use crate::shelf::Shelf;
@@ -48,6 +49,7 @@ fn run(mut dice: Dice, racks: Racks, tally: &mut Tally) {
         if written.number == 0 {
             tally_rack(&case.rack, tally);
             Shelf::of(&case.rack, &case.tables.view(), case.left).tally(tally);
+            tally_marks(&case.rack, &case.tables.view(), tally);
         }
         if let Some(number) = expected {
             assert_eq!(written.number, number);
@@ -63,6 +65,8 @@ fn run(mut dice: Dice, racks: Racks, tally: &mut Tally) {
         ("space one byte short", 5_000),
         ("accepted with 0 viewers", 10_000),
         ("accepted with amount 0", 5_000),
+        ("accepted with marks", 10_000),
+        ("accepted without a mark", 5_000),
     ];
     least.extend(WRONG.map(|(name, _)| (name, 50)));
     least.extend(WRONG_TABLES.map(|(name, _)| (name, 1_000)));
@@ -150,7 +154,7 @@ fn choose_space(dice: &mut Dice, plan: &Plan, case: &mut Case, tally: &mut Tally
 /// Makes the tables of a well-formed plan wrong, or gives false.
 type WrongTables = fn(&mut Dice, &Plan, &mut GuardedTables) -> bool;
 
-const WRONG_TABLES: [(&str, WrongTables); 3] = [
+const WRONG_TABLES: [(&str, WrongTables); 6] = [
     ("count above the slots", |dice, plan, tables| {
         let disk = dice.below(plan.disks.len());
         let slots = plan.rack[disk].slots.0;
@@ -160,19 +164,49 @@ const WRONG_TABLES: [(&str, WrongTables); 3] = [
     }),
     ("film in an unused place", |dice, plan, tables| {
         let film = dice.pick(&BITS);
-        mark_unused(dice, plan, tables, Entry::new(film, 0))
+        set_unused(dice, plan, tables, Entry::new(film, 0))
     }),
     ("viewers in an unused place", |dice, plan, tables| {
         let viewers = dice.pick(&BITS);
-        mark_unused(dice, plan, tables, Entry::new(0, viewers))
+        set_unused(dice, plan, tables, Entry::new(0, viewers))
+    }),
+    ("mark in an unused place", |dice, plan, tables| {
+        let mark = dice.pick(&[1, 1, 2, u16::MAX]);
+        set_unused(dice, plan, tables, Entry::default().with_mark(mark))
+    }),
+    ("mark above 1", |dice, plan, tables| {
+        let mark = dice.pick(&[2, 2, 3, 1 << 15, 1 << 15 | 1, u16::MAX]);
+        change_used(dice, plan, tables, |copy| copy.with_mark(mark))
+    }),
+    ("film 0 with a mark", |dice, plan, tables| {
+        change_used(dice, plan, tables, |copy| {
+            Entry::new(0, copy.amount()).with_mark(1)
+        })
     }),
 ];
 
 /// Numbers with a low bit, one in the middle, a high bit, or all.
 const BITS: [u32; 4] = [1, 1 << 16, 1 << 31, u32::MAX];
 
+/// Changes the entry of some copy, if the disk that is looked at has one.
+fn change_used(
+    dice: &mut Dice,
+    plan: &Plan,
+    tables: &mut GuardedTables,
+    change: impl FnOnce(Entry) -> Entry,
+) -> bool {
+    let disk = dice.below(plan.disks.len());
+    let used = plan.disks[disk].len();
+    if used > 0 {
+        let place = places(&plan.rack[..disk]) + dice.below(used);
+        let copy = &mut tables.lend().copies[place];
+        *copy = change(*copy);
+    }
+    used > 0
+}
+
 /// Writes an entry into the first unused place or the last place of some disk.
-fn mark_unused(dice: &mut Dice, plan: &Plan, tables: &mut GuardedTables, entry: Entry) -> bool {
+fn set_unused(dice: &mut Dice, plan: &Plan, tables: &mut GuardedTables, entry: Entry) -> bool {
     let disk = dice.below(plan.disks.len());
     let slots = plan.rack[disk].slots.0 as usize;
     let used = plan.disks[disk].len();

@@ -1,6 +1,6 @@
 //! Inputs of many lengths, in every way that they can come, against the plain planner and writer.
 
-use jugfjord::reference::plan::Pair;
+use jugfjord::reference::plan::StoredCopy;
 use jugfjord::reference::reader::plan_of;
 
 use crate::contents::bytes_of;
@@ -108,14 +108,14 @@ fn the_inputs_have_every_answer() {
 /// Counts a plan by where its films of demand 0 are.
 fn tally_plan(text: &[u8], tally: &mut Tally) {
     let plan = plan_of(text).expect("a plan text");
-    let has_shelf = |pairs: &[Pair]| pairs.iter().any(|pair| pair.1 == 0);
-    let disks = plan.disks.iter().filter(|copies| has_shelf(copies)).count();
+    let has_shelf = |copies: &&Vec<StoredCopy>| copies.iter().any(|copy| copy.viewers == 0);
+    let disks = plan.disks.iter().filter(has_shelf).count();
     let is_unwatched = plan.served() + plan.unserved() == 0;
     tally.answer(0);
     tally.count_met(&[
         ("shelf copies on one disk", disks == 1),
         ("shelf copies on several disks", disks > 1),
-        ("shelf film left", has_shelf(&plan.left)),
+        ("shelf film left", plan.left.iter().any(|film| film.1 == 0)),
         ("films of demand 0 alone", disks > 0 && is_unwatched),
     ]);
 }

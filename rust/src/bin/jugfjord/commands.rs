@@ -13,16 +13,19 @@ pub struct Command {
     pub name: &'static str,
     /// Each use behind the name, its options and its files, and what it does.
     uses: &'static [(&'static str, &'static str)],
-    /// What its help says besides.
-    more: &'static str,
+    /// What its help says besides, in parts.
+    more: &'static [&'static str],
     /// The options it knows besides --help.
     pub options: &'static [&'static str],
+    /// The options with a file behind them, and what the file is called.
+    pub file_options: &'static [(&'static str, &'static str)],
     /// Answers what it prints on standard output.
     pub run: fn(&Arguments) -> Result<Vec<u8>, Failure>,
 }
 
 impl Command {
     /// The files that it takes with these options, as the first use that has them names the files.
+    /// Files behind an option are not among them.
     pub fn files(&self, options: &[&str]) -> Vec<&'static str> {
         let mut uses = self.uses.iter().map(|(words, _)| words.split(' '));
         let found = uses.find(|words| {
@@ -40,39 +43,56 @@ const COMMANDS: [Command; 4] = [
         uses: &[
             ("LIST", "print the plan text of a list file"),
             ("--records FILE", "print the plan text of a list in records"),
+            (
+                "... --after PLAN",
+                "mark the copies that an earlier plan has",
+            ),
         ],
-        more: LIST_FILE,
+        more: &[EARLIER_PLAN, LIST_FILE],
         options: &["--records"],
+        file_options: &[("--after", "PLAN")],
         run: planning::plan,
     },
     Command {
         name: "records",
         uses: &[("LIST", "print a list file as records for plan(1)")],
-        more: LIST_FILE,
+        more: &[LIST_FILE],
         options: &[],
+        file_options: &[],
         run: planning::records,
     },
     Command {
         name: "check",
         uses: &[("PLAN", "say whether a text is a plan text")],
-        more: "",
+        more: &[],
         options: &[],
+        file_options: &[],
         run: plan_file::check,
     },
     Command {
         name: "show",
         uses: &[("PLAN", "print a plan for people, by film and by disk")],
-        more: "\
-A shelf film is one that nobody is expected to watch. A copy without viewers is
-shown as DISK:shelf. A shelf film that found no slot has 'no slot' under 'left'.
-
-On a terminal bold and colour are used, unless NO_COLOR is set and not empty or
-TERM is dumb.
-",
+        more: &[SHOWN],
         options: &[],
+        file_options: &[],
         run: show::show,
     },
 ];
+
+const SHOWN: &str = "\
+A shelf film is one that nobody is expected to watch. A copy without viewers is
+shown as DISK:shelf. A shelf film that found no slot has 'no slot' under 'left'.
+A copy with * behind it need not be copied, since its disk held the film before.
+
+On a terminal bold and colour are used, unless NO_COLOR is set and not empty or
+TERM is dumb.
+";
+
+const EARLIER_PLAN: &str = "\
+With --after PLAN, the plan text of the week before, a copy is marked where the
+same disk held the same film then, as in (8 1 held): it need not be copied. The
+earlier rack may be any other.
+";
 
 const LIST_FILE: &str = "\
 A list file:
@@ -127,10 +147,8 @@ pub fn help() -> String {
 
 /// The help of one command.
 pub fn help_of(command: &Command) -> String {
-    let more = match command.more {
-        "" => String::new(),
-        more => format!("{more}\n"),
-    };
+    let parts = command.more.iter();
+    let more: String = parts.map(|part| format!("{part}\n")).collect();
     format!("Usage:\n{}\n{more}{FILES}\n{STATUSES}", uses_of(command))
 }
 

@@ -55,7 +55,8 @@ impl Source {
         }
     }
 
-    fn is_standard_input(&self) -> bool {
+    /// Whether it is standard input.
+    pub fn is_standard_input(&self) -> bool {
         self.0 == "-"
     }
 }

@@ -22,9 +22,9 @@ returns c =
     let found = at-pairs .read-pairs in
     record {
       reads =
-          pairs-said mixedHead mixedAccepted (a .text .now) (a .cursor) (at-head .eat-all .result) (c .end-line .result)
-          (a .rack .now) (found .last .1 .1 .0) (found .result) (c .before .mixed-accepted .result) (at-head .eat-all .ensures)
-          (found .ensures) (c .before .mixed-accepted .ensures) (c .end-line .ensures);
+          pairs-said (a .text .now) (a .cursor) (at-head .eat-all .result) (c .end-line .result) (a .rack .now) (found .last .1 .1 .0)
+          (found .result) (c .before .mixed-accepted .result) mixedHead mixedAccepted (at-head .eat-all .ensures) (found .ensures)
+          (c .before .mixed-accepted .ensures) (c .end-line .ensures);
       few = found .ensures .stored .few;
     }
 

@@ -1,18 +1,19 @@
--- `reader::line::disk_line` meets its contract: the head, the pairs, and the end of the line with the test of the copies.
+-- `reader::line::disk_line` meets its contract: the head, the copies, and the end of the line with the test of the copies.
 use borrow.Author.Needs.{needs}
 use mathlib.Core.Path.{sym, ap₂, _∙_}
+use mathlib.Core.List.{map}
 use Prim.Native.Nat.{ℕ, _≤_}
 use native.Mathlib.Omega.{arith}
 use lib.ListN.{length}
 use lib.Seq.{length-take-le}
+use Rattle.placement.specs.Copies.{copyOf}
 use Rattle.placement.specs.Rack.{disk}
-use Rattle.placement.specs.Plan.{diskAccepted}
+use Rattle.placement.specs.Plan.{copiesAccepted}
 use Rattle.placement.specs.Packed.{diskIn}
 use Rattle.placement.specs.Held.{front}
-use Rattle.plan_text.specs.Text.{diskHead}
 use Rattle.reader.specs.Cursor.{place}
 use Rattle.reader.proofs.Lines.{disk-head}
-use Rattle.reader.proofs.PairLines.{pairs-line}
+use Rattle.reader.proofs.PairLines.{copies-line}
 use Rattle.reader.proofs.line.disk_line.Statement.{statement}
 use Rattle.reader.proofs.line.disk_line.Tie as tie
 
@@ -38,16 +39,15 @@ returns c =
     let text = a .text .now in
     let found = at-pairs .read-pairs in
     let few : length (found .last .1 .1 .0) ≤ 4294967296 = omega (arith, found .kept .1 .1 .0, at-start .pre) in
-    pairs-line (diskHead (a .number)) (diskAccepted (diskIn (a .disk))) text (a .cursor)
-    (at-head .eat-number .result) (c .end-line .result) (a .copies .now) (found .last .1 .1 .0) (found .result)
-    (c .before .disk-accepted .result) (at-total .total .result)
+    copies-line text (a .cursor) (at-head .eat-number .result) (c .end-line .result) (a .copies .now) (found .last .1 .1 .0) (found .result)
+    (c .before .disk-accepted .result) (a .number) (diskIn (a .disk))
     (disk-head (a .number) (place text (at-head .eat-number .result)) (place text (at-head .before .eat-all .result))
     (place text (a .cursor)) (at-head .before .eat-all .ensures) (at-head .eat-number .ensures))
     (found .ensures)
     (c .before .disk-accepted .ensures
-    ∙ ap₂ (λ (k l : ℕ). diskAccepted (disk k l) (front (found .result .count) (found .last .1 .1 .0))) (at-slots .disk-slots .ensures)
+    ∙ ap₂ (λ (k l : ℕ). copiesAccepted (disk k l) (map copyOf (front (found .result .count) (found .last .1 .1 .0)))) (at-slots .disk-slots .ensures)
     (at-streams .disk-streams .ensures))
-    (c .end-line .ensures) (at-total .total .ensures) few
+    (c .end-line .ensures) (at-total .total .result) (at-total .total .ensures) few
 
 pub disk-line-spec : {M : Type 1} → statement M
 disk-line-spec =

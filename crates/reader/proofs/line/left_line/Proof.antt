@@ -30,10 +30,9 @@ returns c =
     let a = at-start .args in
     let found = at-pairs .read-pairs in
     let few : length (found .last .1 .1 .0) ≤ 4294967296 = omega (arith, found .kept .1 .1 .0, at-start .pre) in
-    pairs-line leftHead leftAccepted (a .text .now) (a .cursor)
-    (at-head .eat-all .result) (c .end-line .result) (a .left .now) (found .last .1 .1 .0) (found .result)
-    (c .before .left-accepted .result) (at-total .total .result) (at-head .eat-all .ensures)
-    (found .ensures) (c .before .left-accepted .ensures) (c .end-line .ensures) (at-total .total .ensures) few
+    pairs-line (a .text .now) (a .cursor) (at-head .eat-all .result) (c .end-line .result) (a .left .now) (found .last .1 .1 .0) (found .result)
+    (c .before .left-accepted .result) leftHead leftAccepted (at-head .eat-all .ensures) (found .ensures) (c .before .left-accepted .ensures)
+    (c .end-line .ensures) (at-total .total .result) (at-total .total .ensures) few
 
 pub left-line-spec : {M : Type 1} → statement M
 left-line-spec =

@@ -18,7 +18,7 @@ abbrev μ-loop : tie.MeasureT-loop
 returns : tie.Need-returns Inv-loop μ-loop
 returns c =
     let at-turn = c .before .before .before in
-    let found = sym (c .if1 .taken) ∙ c .before .entry-film .ensures in
+    let found = sym (c .if1 .taken) ∙ c .before .copy-film .ensures in
     fails (absentWalk _) _ _ (at-turn .loop-test .taken) (ap not (eq-eqb _ _ found)) ∙ sym (at-turn .before .loop .inv)
 
 loop-again : tie.Need-loop-again Inv-loop μ-loop
@@ -26,7 +26,7 @@ loop-again c =
     let at-turn = c .before .before .before in
     at-turn .before .loop .inv
     ∙ passes (absentWalk _) _ _ (at-turn .loop-test .taken)
-    (ap not (ne-eqb _ _ (λ same. c .if1 .left (c .before .entry-film .ensures ∙ sym same))))
+    (ap not (ne-eqb _ _ (λ same. c .if1 .left (c .before .copy-film .ensures ∙ sym same))))
 
 returns-2 : tie.Need-returns-2 Inv-loop μ-loop
 returns-2 c = sym (c .before .loop .inv ∙ ap (absentWalk _ .whole) (drop-of-length-le _ (c .loop-test .left)))

@@ -1,89 +1,19 @@
--- `well_formed::disk_accepted` meets its contract: the tests are those of `diskAccepted`, in its order.
-use mathlib.Core.Path.{sym, ap, _∙_}
-use mathlib.Core.Bool.{Bool, _&&_}
-use mathlib.Core.List.{List, map}
-use Prim.Native.Nat.{ℕ, _<_}
-use native.Mathlib.Omega.{arith}
+-- `well_formed::disk_accepted` meets its contract: the copies are tested, then their marks.
+use mathlib.Core.Path.{sym, _∙_}
 use borrow.Author.Needs.{needs}
 use borrow.Author.Tests.{not-true, not-false}
-use lib.Dec.{leb}
-use lib.ListN.{length}
-use Rattle.placement.specs.Items.{total}
-use Rattle.placement.specs.Tables.{itemIn}
-use Rattle.placement.specs.Plan.{every, distinctFilms, copyAccepted}
-use Rattle.placement.proofs.Conjunctions.{first-fails, second-fails, second-decides, third-decides}
-use Rattle.well_formed.proofs.Sums.{few-enough, too-many, leb-capped}
+use Rattle.placement.proofs.Conjunctions.{first-fails, second-decides}
 use Rattle.well_formed.proofs.copies.disk_accepted.Statement.{statement}
 use Rattle.well_formed.proofs.copies.disk_accepted.Tie as tie
 
--- The tests, each of a table's entries.
-abbrev few : ℕ → List ℕ → Bool
-few slots copies = leb (length (map itemIn copies)) slots
-
-abbrev distinct : List ℕ → Bool
-distinct copies = distinctFilms (map itemIn copies)
-
-abbrev each : List ℕ → Bool
-each copies = every copyAccepted (map itemIn copies)
-
-abbrev within : ℕ → List ℕ → Bool
-within load copies = leb (total (map itemIn copies)) load
-
 returns : tie.Need-returns
-returns c =
-    let a = c .before .before .args in
-    let copies = a .copies .now in
-    first-fails (few (a .slots .0) copies) (distinct copies && (each copies && within (a .streams .0) copies))
-    (too-many copies (a .slots .0) (c .if1 .taken))
+returns c = first-fails _ _ (sym (c .before .copies-fit .ensures) ∙ not-true _ (c .if1 .taken))
 
 returns-2 : tie.Need-returns-2
 returns-2 c =
-    let at-few = c .before .before in
-    let a = at-few .before .before .args in
-    let copies = a .copies .now in
-    second-fails (few (a .slots .0) copies) (distinct copies) (each copies && within (a .streams .0) copies)
-    (few-enough copies (a .slots .0) (at-few .if1 .left))
-    (sym (c .before .distinct-films .ensures) ∙ not-true _ (c .if2 .taken))
-
-returns-3 : tie.Need-returns-3
-returns-3 c =
-    let at-distinct = c .before .before .before in
-    let at-few = at-distinct .before in
-    let a = at-few .before .before .args in
-    let copies = a .copies .now in
-    first-fails (each copies) (within (a .streams .0) copies)
-    (sym (c .before .every-copy-accepted .ensures) ∙ not-true _ (c .if3 .taken))
-    ∙ third-decides (few (a .slots .0) copies) (distinct copies) (each copies && within (a .streams .0) copies)
-    (few-enough copies (a .slots .0) (at-few .if1 .left))
-    (sym (at-distinct .distinct-films .ensures) ∙ not-false _ (c .before .before .if2 .left))
-
-returns-4 : tie.Need-returns-4
-returns-4 c =
-    let at-every = c .before .before in
-    let at-distinct = at-every .before .before in
-    let at-few = at-distinct .before in
-    let a = at-few .before .before .args in
-    let copies = a .copies .now in
-    let load = a .streams .0 in
-    let small : load < 18446744073709551615 = omega arith in
-    ap (λ (sum : ℕ). leb sum load) (c .total .ensures .always)
-    ∙ leb-capped (total (map itemIn copies)) load small
-    ∙ second-decides (each copies) (within load copies)
-    (sym (at-every .every-copy-accepted .ensures) ∙ not-false _ (c .before .if3 .left))
-    ∙ third-decides (few (a .slots .0) copies) (distinct copies) (each copies && within load copies)
-    (few-enough copies (a .slots .0) (at-few .if1 .left))
-    (sym (at-distinct .distinct-films .ensures) ∙ not-false _ (at-every .before .if2 .left))
+    let at-fit = c .before .before in
+    c .marks-accepted .ensures ∙ second-decides _ _ (sym (at-fit .copies-fit .ensures) ∙ not-false _ (c .before .if1 .left))
 
 pub disk-accepted-spec : {M : Type 1} → statement M
 disk-accepted-spec =
-    tie.close
-    (tie.spec
-    (λ c. search needs)
-    returns
-    (λ c κs. search needs)
-    returns-2
-    (λ c κs. search needs)
-    returns-3
-    (λ c κs. search needs)
-    (λ c. search needs)
-    returns-4)
+    tie.close (tie.spec (λ c κs. search needs) returns (λ c κs. search needs) returns-2)

@@ -1,18 +1,15 @@
 -- `well_formed::distinct_films` meets its contract. The invariant: the copies not yet passed give the answer for all.
 use mathlib.Core.Path.{_≡_, sym, ap, _∙_}
-use mathlib.Core.List.{map}
 use Prim.Native.Nat.{ℕ, _+_, _-_}
 use borrow.Author.Needs.{needs}
 use borrow.Author.Tests.{not-true, not-false}
 use lib.ListN.{length, drop, drop-of-length-le}
-use Rattle.placement.specs.Tables.{itemIn}
-use Rattle.placement.specs.Plan.{distinctFilms}
 use Rattle.well_formed.proofs.Walks.{distinctWalk, absentWalk, passes, fails}
 use Rattle.well_formed.proofs.copies.distinct_films.Statement.{statement}
 use Rattle.well_formed.proofs.copies.distinct_films.Tie as tie
 
 abbrev Inv-loop : tie.InvT-loop
-Inv-loop copies i₀ i = distinctFilms (map itemIn copies) ≡ distinctFilms (map itemIn (drop i copies))
+Inv-loop copies i₀ i = distinctWalk .whole copies ≡ distinctWalk .whole (drop i copies)
 
 abbrev μ-loop : tie.MeasureT-loop
 μ-loop copies i₀ i = length copies - i
@@ -23,7 +20,7 @@ returns c =
     let at-turn = at-film .before .before in
     let at-loop = at-turn .before in
     let behind = drop (at-loop .loop .i + 1) (at-loop .before .before .args .copies .now) in
-    let again = ap (λ (film : ℕ). absentWalk film .whole behind) (sym (at-film .entry-film .ensures)) ∙ sym (c .before .absent .ensures) in
+    let again = ap (λ (film : ℕ). absentWalk film .whole behind) (sym (at-film .copy-film .ensures)) ∙ sym (c .before .absent .ensures) in
     fails distinctWalk _ _ (at-turn .loop-test .taken) (again ∙ not-true _ (c .if1 .taken)) ∙ sym (at-loop .loop .inv)
 
 loop-again : tie.Need-loop-again Inv-loop μ-loop
@@ -32,7 +29,7 @@ loop-again c =
     let at-turn = at-film .before .before in
     let at-loop = at-turn .before in
     let behind = drop (at-loop .loop .i + 1) (at-loop .before .before .args .copies .now) in
-    let none = ap (λ (film : ℕ). absentWalk film .whole behind) (sym (at-film .entry-film .ensures)) ∙ sym (c .before .absent .ensures) in
+    let none = ap (λ (film : ℕ). absentWalk film .whole behind) (sym (at-film .copy-film .ensures)) ∙ sym (c .before .absent .ensures) in
     at-loop .loop .inv ∙ passes distinctWalk _ _ (at-turn .loop-test .taken) (none ∙ not-false _ (c .if1 .left))
 
 returns-2 : tie.Need-returns-2 Inv-loop μ-loop

@@ -7,7 +7,7 @@ use native.Mathlib.Omega.{arith}
 use lib.ListN.{length, getD, drop}
 use Rattle.placement.specs.Rack.{Disk}
 use Rattle.placement.specs.Packed.{diskIn, disksIn}
-use Rattle.placement.specs.Held.{copiesFrom}
+use Rattle.placement.specs.Held.{markedFrom}
 use Rattle.placement.proofs.Offsets.{offset}
 use Rattle.writer.specs.Space.{diskLines}
 use Rattle.writer.proofs.Spaces.{Rest, rest-start, rest-step, rest-done}
@@ -19,8 +19,8 @@ abbrev Inv-loop : tie.InvT-loop
 Inv-loop out₀ at rack copies counts next₀ first₀ d₀ out next first d =
     (d ≤ length rack)
     × (first ≡ offset (disksIn rack) d)
-    × Rest at (diskLines 1 (copiesFrom (disksIn rack) copies counts)) out₀ next
-    (diskLines (d + 1) (copiesFrom (drop d (disksIn rack)) (drop first copies) (drop d counts))) out
+    × Rest at (diskLines 1 (markedFrom (disksIn rack) copies counts)) out₀ next
+    (diskLines (d + 1) (markedFrom (drop d (disksIn rack)) (drop first copies) (drop d counts))) out
 
 abbrev μ-loop : tie.MeasureT-loop
 μ-loop out₀ at rack copies counts next₀ first₀ d₀ out next first d = length rack - d
@@ -105,7 +105,7 @@ returns c =
     let a = at-start (c .before) .args in
     let loop = c .before .loop in
     rest-done
-    (ap (λ (ds : List Disk). diskLines (loop .d + 1) (copiesFrom ds (drop (loop .first) (a .copies .now)) (drop (loop .d) (a .counts .now))))
+    (ap (λ (ds : List Disk). diskLines (loop .d + 1) (markedFrom ds (drop (loop .first) (a .copies .now)) (drop (loop .d) (a .counts .now))))
     (no-disk (a .rack .now) (loop .d) (c .loop-test .left)))
     (loop .inv .2)
 

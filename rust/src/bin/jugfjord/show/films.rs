@@ -18,9 +18,27 @@ const GAP: &str = "  ";
 const SHELF: &str = "shelf";
 /// Stands in the place of what is left where a film has no copy and no viewers are left.
 const NO_SLOT: &str = "no slot";
+/// Stands behind the viewers of a copy that need not be copied.
+pub const HELD: &str = "*";
 
-/// A film's copy: the disk, and the viewers there.
-type Stored = (u32, u32);
+/// A film's copy: the disk, the viewers there, and whether the disk held it before.
+struct Stored {
+    disk: u32,
+    viewers: u32,
+    is_held: bool,
+}
+
+impl Stored {
+    /// The viewers and the mark, as they are shown.
+    fn shown(&self) -> String {
+        let viewers = match self.viewers {
+            0 => SHELF.into(),
+            viewers => viewers.to_string(),
+        };
+        let mark = if self.is_held { HELD } else { "" };
+        viewers + mark
+    }
+}
 
 /// What a plan has of one film.
 #[derive(Default)]
@@ -35,7 +53,7 @@ pub type Films = BTreeMap<u32, Film>;
 impl Film {
     /// The viewers of all copies.
     fn served(&self) -> u32 {
-        self.copies.iter().map(|copy| copy.1).sum()
+        self.copies.iter().map(|copy| copy.viewers).sum()
     }
 
     /// Whether it is on some disk.
@@ -66,8 +84,8 @@ impl Film {
 /// The rows of all films.
 pub fn rows(films: &Films) -> Vec<Row> {
     let copies = || films.values().flat_map(|film| &film.copies);
-    let disk = widest(copies().map(|copy| copy.0.to_string()));
-    let viewers = widest(copies().map(|copy| shown_viewers(copy.1)));
+    let disk = widest(copies().map(|copy| copy.disk.to_string()));
+    let viewers = widest(copies().map(Stored::shown));
     let rows = |(&number, film): (&u32, &Film)| {
         rows_of(number, film, copy_lines(&film.copies, disk, viewers))
     };
@@ -83,7 +101,11 @@ pub fn gather(rack: &[Disk], tables: &TablesView, left: u32) -> Films {
     let copies = disks.flat_map(|(disk, copies)| copies.iter().map(move |copy| (disk, copy)));
     for (disk, copy) in copies {
         let film = films.entry(copy.film()).or_default();
-        film.copies.push((disk, copy.amount()));
+        film.copies.push(Stored {
+            disk,
+            viewers: copy.amount(),
+            is_held: copy.mark() == 1,
+        });
     }
     films
 }
@@ -93,19 +115,11 @@ fn widest(words: impl Iterator<Item = String>) -> usize {
     words.map(|word| word.len()).max().unwrap_or(0)
 }
 
-/// The viewers of a copy, as they are shown.
-fn shown_viewers(viewers: u32) -> String {
-    match viewers {
-        0 => SHELF.into(),
-        _ => viewers.to_string(),
-    }
-}
-
 /// The copies in lines, each with so many characters for its disk and for its viewers.
 fn copy_lines(copies: &[Stored], disk: usize, viewers: usize) -> Vec<String> {
-    let shown = |&(number, amount): &Stored| {
-        let amount = shown_viewers(amount);
-        format!("{number:>disk$}:{amount:<viewers$}")
+    let shown = |copy: &Stored| {
+        let (number, shown) = (copy.disk, copy.shown());
+        format!("{number:>disk$}:{shown:<viewers$}")
     };
     let shown: Vec<String> = copies.iter().map(shown).collect();
     let a_line = (WIDTH + GAP.len()) / (disk + 1 + viewers + GAP.len());

@@ -6,13 +6,13 @@ mod page;
 
 use jugfjord::ffi::ReadPlan;
 use jugfjord::rack::{places, Disk, MOST_DISKS};
-use jugfjord::tables::OwnTables;
+use jugfjord::tables::{OwnTables, TablesView};
 use jugfjord::wrap;
 
 use crate::arguments::Arguments;
 use crate::failure::Failure;
 use crate::{plan_file, standard};
-use films::{Film, Films};
+use films::{Film, Films, HELD};
 use page::Page;
 
 /// The most characters of a line.
@@ -33,7 +33,8 @@ pub fn show(arguments: &Arguments) -> Result<Vec<u8>, Failure> {
     page.sentence(&rack_words(rack));
     page.table(films::TITLES, films::rows(&films));
     page.table(disks::TITLES, disks::rows(rack, &tables.view()));
-    page.sentence(&(sums(&plan, &films) + &shelf(&films)));
+    let held = held(rack, &tables.view());
+    page.sentence(&(sums(&plan, &films) + &shelf(&films) + &held));
     Ok(page.into_bytes())
 }
 
@@ -88,6 +89,19 @@ fn shelf(films: &Films) -> String {
             "\nnobody is expected to watch {}: {stored} stored, {others} without a slot",
             counted(all, "shelf film")
         ),
+    }
+}
+
+/// A line below the others on the copies that need not be copied, if there are any.
+fn held(rack: &[Disk], tables: &TablesView) -> String {
+    let held: usize = disks::copies(rack, tables)
+        .map(|(_, copies)| disks::held(copies))
+        .sum();
+    let all: u32 = tables.counts[..rack.len()].iter().sum();
+    let copies = if all == 1 { "copy" } else { "copies" };
+    match held {
+        0 => String::new(),
+        _ => format!("\n{held} of {all} {copies} need not be copied (marked {HELD})"),
     }
 }
 

@@ -1,0 +1,196 @@
+-- The promise of planning after an earlier plan follows from its definition.
+use mathlib.Core.Path.{_≡_, refl, sym, ap, ap₂, subst, _∙_}
+use mathlib.Core.Bool.{true}
+use mathlib.Core.List.{List, [], map, _++_}
+use Prim.Native.Nat.{ℕ, _≤_, _<_}
+use native.Mathlib.Omega.{arith}
+use lib.ListN.{length, take, drop}
+use Rattle.refusal.specs.Verdict.{Verdict, given, refused, Numbers}
+use Rattle.refusal.proofs.Verdicts.{Numbered}
+use Rattle.placement.specs.Items.{Item}
+use Rattle.placement.specs.Copies.{Copy, layoutOf, halvesOf, markFor, marked}
+use Rattle.placement.specs.Rack.{allSlots}
+use Rattle.placement.specs.Tables.{Tables, tables, places, written}
+use Rattle.placement.specs.Plan.{Plan, disksAccepted, wellFormed}
+use Rattle.placement.specs.Held.{copiesHeld}
+use Rattle.placement.specs.Records.{recordCount}
+use Rattle.placement.specs.Planning.{Call, PlanSums, layoutIn, planAfter, planIn, holdingFor, holdingCall, verdict, planning, tablesAfter, answerFor, tablesFor}
+use Rattle.placement.specs.PlanPromise.{PlanPromise}
+use Rattle.placement.specs.WellFormed.{CallWellFormed}
+use Rattle.placement.proofs.Formed.{plan-disks}
+use Rattle.placement.proofs.MarkedCopies.{marked-layout, marked-none, halves-lengths}
+use Rattle.placement.proofs.Written.{written-front, written-behind}
+use Rattle.placement.proofs.ReadBack.{plan-fits, fits-length, padded-held}
+use Rattle.placement.proofs.Calls.{call-wellFormed, after-wellFormed}
+use Rattle.placement.proofs.PlanPromise.{verdict-numbered, plan-promise}
+use Rattle.plan_text.specs.Text.{textOf}
+use Rattle.plan_text.specs.ReadCall.{textVerdict, mostBytes}
+use Rattle.plan_text.proofs.Verdicts.{verdict-text, verdict-line, verdict-eight, given-refused}
+use Rattle.plan_after.specs.After.{followedBy, verdictAfter, holdingAfter, answerAfter, tablesGivenAfter, planningAfter, tablesAfterEarlier, unmarkedEntry, withoutMarks}
+use Rattle.plan_after.specs.AfterPromise.{onDisk, copyAt, PlanAfterPromise}
+use Rattle.plan_after.proofs.MarkedTables.{places-unmarked}
+use Rattle.plan_after.proofs.MarkedAt.{marked-at}
+
+-- A plan of a verdict.
+abbrev planOr : Plan → Verdict Plan → Plan
+planOr d (given p) = p
+planOr d (refused number second) = d
+
+-- A call that is not refused, and what the disks of an earlier plan held.
+module _ (c : Call) (t : Tables) (formed : CallWellFormed c) (earlier : List (List Item)) where
+  abbrev pub halves : List (List Item)
+  halves = map (map halvesOf) (marked earlier (layoutIn c))
+
+  -- The plan without marks is accepted, and the marked one well formed.
+  pub layout-accepted : disksAccepted (c .rack) (layoutIn c) ≡ true
+  layout-accepted = ap (disksAccepted (c .rack)) (sym (marked-layout [] (layoutIn c))) ∙ plan-disks (planIn c) (formed .plan)
+
+  after-formed : wellFormed (planAfter earlier c) ≡ true
+  after-formed = after-wellFormed c earlier formed
+
+  -- Its places are as many as all slots.
+  pub wide : length (places (c .rack) halves) ≡ allSlots (c .rack)
+  wide = fits-length (c .rack) halves (plan-fits (planAfter earlier c) after-formed)
+
+  -- Without marks its tables are those of planning without an earlier text.
+  copies-same :
+      map unmarkedEntry (take (allSlots (c .rack)) (written (places (c .rack) halves) (t .copies))) ++ drop (allSlots (c .rack)) (written (places (c .rack) halves) (t .copies))
+      ≡ written (places (c .rack) (map (map halvesOf) (planIn c .copies))) (t .copies)
+  copies-same =
+      ap₂ (λ (a b : List ℕ). map unmarkedEntry a ++ b) (written-front (places (c .rack) halves) (t .copies) (allSlots (c .rack)) wide)
+      (written-behind (places (c .rack) halves) (t .copies) (allSlots (c .rack)) wide)
+      ∙ ap₂ (λ (a : List ℕ) (n : ℕ). a ++ drop n (t .copies)) (places-unmarked (c .rack) (layoutIn c) earlier layout-accepted) (sym bare)
+      ∙ ap (λ (l : List (List Item)). written (places (c .rack) l) (t .copies)) (sym (marked-none (layoutIn c)))
+    where
+      bare : length (places (c .rack) (layoutIn c)) ≡ allSlots (c .rack)
+      bare =
+          ap (λ (l : List (List Item)). length (places (c .rack) l)) (sym (marked-none (layoutIn c)))
+          ∙ fits-length (c .rack) (map (map halvesOf) (planIn c .copies)) (plan-fits (planIn c) (formed .plan))
+
+  pub lengths-same : map length halves ≡ map length (map (map halvesOf) (planIn c .copies))
+  lengths-same =
+      halves-lengths (marked earlier (layoutIn c))
+      ∙ ap (map length) (marked-layout earlier (layoutIn c) ∙ sym (marked-layout [] (layoutIn c)))
+      ∙ sym (halves-lengths (planIn c .copies))
+
+  pub without-marks : withoutMarks (c .rack) (holdingFor c (planAfter earlier c) t) ≡ holdingCall c t
+  without-marks =
+      ap₂ (λ (a b : List ℕ). tables a b (holdingCall c t .left)) copies-same (ap (λ (l : List ℕ). written l (t .counts)) lengths-same)
+
+  -- The copies that they hold are the marked ones.
+  pub copies-held : copiesHeld (c .rack) (holdingFor c (planAfter earlier c) t) ≡ marked earlier (layoutIn c)
+  copies-held = ap (λ (q : Plan). q .copies) (padded-held (planAfter earlier c) after-formed (recordCount (c .list)) t)
+
+-- Planning without an earlier text, by its verdict.
+module _ (c : Call) (t : Tables) where
+  pub planning-is : (v : Verdict (Unit {0})) → verdict c t ≡ v → planning c t ≡ answerFor c v
+  unfolding planning
+  planning-is v e = ap (answerFor c) e
+
+  pub tables-are : (v : Verdict (Unit {0})) → verdict c t ≡ v → tablesAfter c t ≡ tablesFor c t v
+  unfolding tablesAfter
+  tables-are v e = ap (tablesFor c t) e
+
+-- What holds by the two verdicts: on the call, and on the earlier text.
+module _ (c : Call) (text : List ℕ) (t : Tables) where
+  -- Planning after an earlier text, by both.
+  module _ (v : Verdict (Unit {0})) (w : Verdict Plan) (e : verdict c t ≡ v) (f : textVerdict text ≡ w) where
+    numbers-are : answerAfter c (followedBy v w) ≡ planningAfter c text t
+    unfolding planningAfter
+    numbers-are = ap₂ (λ (a : Verdict (Unit {0})) (b : Verdict Plan). answerAfter c (followedBy a b)) (sym e) (sym f)
+
+    places-are : tablesGivenAfter c t (followedBy v w) ≡ tablesAfterEarlier c text t
+    unfolding tablesAfterEarlier
+    places-are = ap₂ (λ (a : Verdict (Unit {0})) (b : Verdict Plan). tablesGivenAfter c t (followedBy a b)) (sym e) (sym f)
+
+  -- A refusal of planning comes first.
+  pub refused-first :
+      (n s : ℕ) (w : Verdict Plan) → verdict c t ≡ refused n s → textVerdict text ≡ w
+      → PlanAfterPromise c text t t (answerAfter c (refused n s))
+  refused-first n s w e f =
+      let some : 1 ≤ n = subst Numbered e (verdict-numbered c t) in
+      let same : planning c t ≡ answerFor c (refused n s) = planning-is c t (refused n s) e in
+      let number : planning c t .refusal ≡ n = ap (λ (a : Numbers PlanSums). a .refusal) same in
+      record {
+        numbers = numbers-are (refused n s) w e f;
+        tables = places-are (refused n s) w e f;
+        unchanged = λ h. refl;
+        first = λ h. sym same;
+        refusedLine = λ h. absurd (omega (arith, some, number, h));
+        refusedLength = λ h. absurd (omega (arith, some, number, h));
+        accepted = λ h. sym same;
+        planned = λ h. absurd (omega (arith, some, h));
+        marks = λ h. absurd (omega (arith, some, h));
+      }
+
+  -- The earlier text is refused behind them.
+  pub refused-text :
+      (n s : ℕ) → verdict c t ≡ given tt → textVerdict text ≡ refused n s
+      → PlanAfterPromise c text t t (answerAfter c (refused n s))
+  refused-text n s e f =
+      let same : planning c t ≡ answerFor c (given tt) = planning-is c t (given tt) e in
+      let number : planning c t .refusal ≡ 0 = ap (λ (a : Numbers PlanSums). a .refusal) same in
+      let some : n ≡ 0 → ⊥ = λ h. let eight : n ≡ 8 = verdict-eight text n s f (λ nine. omega arith) .0 in omega arith in
+      record {
+        numbers = numbers-are (given tt) (refused n s) e f;
+        tables = places-are (given tt) (refused n s) e f;
+        unchanged = λ h. refl;
+        first = λ h. absurd (omega (arith, number, h));
+        refusedLine = λ h nine. verdict-line text s (f ∙ ap (λ (m : ℕ). refused m s) nine);
+        refusedLength = λ h refuses other. let eight = verdict-eight text n s f other in (eight .0, eight .2);
+        accepted = λ a. given-refused (a .plan) n s (sym (verdict-text (a .plan) (a .formed)) ∙ ap textVerdict (a .same) ∙ f);
+        planned = λ h. absurd (some h);
+        marks = λ h. absurd (some h);
+      }
+
+  -- Neither is refused.
+  planned-after :
+      (p : Plan) → verdict c t ≡ given tt → textVerdict text ≡ given p
+      → PlanAfterPromise c text t (holdingAfter c p t) (answerAfter c (given p))
+  planned-after p e f =
+      let same : planning c t ≡ answerFor c (given tt) = planning-is c t (given tt) e in
+      let number : planning c t .refusal ≡ 0 = ap (λ (a : Numbers PlanSums). a .refusal) same in
+      let formed = call-wellFormed c t e in
+      record {
+        numbers = numbers-are (given tt) (given p) e f;
+        tables = places-are (given tt) (given p) e f;
+        unchanged = λ h. absurd (omega (arith, h));
+        first = λ h. absurd (omega (arith, number, h));
+        refusedLine = λ h nine. absurd (omega (arith, nine));
+        refusedLength = λ h refuses. absurd (omega (arith, refuses));
+        accepted = λ a. sym same;
+        planned = λ h.
+            plan-promise c t (withoutMarks (c .rack) (holdingAfter c p t)) (answerAfter c (given p)) (sym same)
+            (without-marks c t formed (layoutOf (p .copies)) ∙ sym (tables-are c t (given tt) e));
+        marks = λ h q ok is d i less.
+            let held = copies-held c t formed (layoutOf (p .copies)) in
+            let there : q ≡ p = ap (planOr p) (sym (verdict-text q ok) ∙ ap textVerdict is ∙ f) in
+            subst (λ (l : List (List Copy)). i < length (onDisk l d) → copyAt l d i .mark ≡ markFor (onDisk (layoutOf (q .copies)) d) (copyAt l d i .film)) (sym held)
+            (λ few. marked-at (layoutOf (p .copies)) (layoutIn c) d i few
+            ∙ ap (λ (r : Plan). markFor (onDisk (layoutOf (r .copies)) d) (copyAt (marked (layoutOf (p .copies)) (layoutIn c)) d i .film)) (sym there)) less;
+      }
+
+  -- So an answer and tables that are planning's and the marked plan's keep the promise.
+  pub marked-promise :
+      (p : Plan) {exit : Tables} {answer : Numbers PlanSums} → verdict c t ≡ given tt → textVerdict text ≡ given p
+      → answer ≡ answerFor c (given tt) → exit ≡ holdingAfter c p t → PlanAfterPromise c text t exit answer
+  marked-promise p {exit} {answer} e f numbers tables =
+      subst (λ (a : Numbers PlanSums). PlanAfterPromise c text t exit a) (sym numbers)
+      (subst (λ (x : Tables). PlanAfterPromise c text t x (answerFor c (given tt))) (sym tables) (planned-after p e f))
+
+  by-verdicts : (v : Verdict (Unit {0})) (w : Verdict Plan) → verdict c t ≡ v → textVerdict text ≡ w → PlanAfterPromise c text t (tablesGivenAfter c t (followedBy v w)) (answerAfter c (followedBy v w))
+  by-verdicts (refused n s) w e f = refused-first n s w e f
+  by-verdicts (given u) (refused n s) e f = refused-text n s e f
+  by-verdicts (given u) (given p) e f = planned-after p e f
+
+  by-definition : PlanAfterPromise c text t (tablesAfterEarlier c text t) (planningAfter c text t)
+  unfolding planningAfter tablesAfterEarlier
+  by-definition = by-verdicts (verdict c t) (textVerdict text) refl refl
+
+  -- An answer and tables that are the definition's keep the whole promise.
+  pub after-promise :
+      {exit : Tables} {answer : Numbers PlanSums} → answer ≡ planningAfter c text t → exit ≡ tablesAfterEarlier c text t
+      → PlanAfterPromise c text t exit answer
+  after-promise {exit} {answer} numbers tables =
+      subst (λ (a : Numbers PlanSums). PlanAfterPromise c text t exit a) (sym numbers)
+      (subst (λ (x : Tables). PlanAfterPromise c text t x (planningAfter c text t)) (sym tables) by-definition)

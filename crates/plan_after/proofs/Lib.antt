@@ -1,0 +1,6 @@
+pub mod Marks
+pub mod MarkedTables
+pub mod MarkedAt
+pub mod AfterPromise
+pub mod Steps
+pub mod LongRacks

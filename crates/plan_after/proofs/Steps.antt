@@ -1,0 +1,148 @@
+-- The steps of planning after an earlier plan: the plan that is marked, and the earlier plan that was read.
+use mathlib.Core.Path.{_≡_, refl, sym, ap, ap₂, subst, _∙_}
+use mathlib.Core.Bool.{Bool, true, false, cond}
+use mathlib.Core.List.{List, [], _∷_, _++_}
+use Prim.Native.Nat.{ℕ, _+_, _≤_}
+use native.Mathlib.Omega.{arith}
+use borrow.Author.Tests.{ne-eqb}
+use lib.Dec.{eqb}
+use lib.ListN.{length, take, drop}
+use Rattle.refusal.specs.Verdict.{Verdict, given, refused, Numbers}
+use Rattle.refusal.specs.Numbers.{numberOf, secondOf}
+use Rattle.refusal.specs.declared.Refusal.{Refusal}
+use Rattle.refusal.proofs.Refusals.{number-some}
+use Rattle.placement.specs.Items.{Item, occurrences}
+use Rattle.placement.specs.Copies.{Copy, layoutOf}
+use Rattle.placement.specs.Rack.{Disk, mostDisks, allSlots}
+use Rattle.placement.specs.Tables.{Tables, tables, ownTables, places, written}
+use Rattle.placement.specs.Plan.{Plan, diskAccepted, disksAccepted, wellFormed}
+use Rattle.placement.specs.Held.{markedFrom, planHeld}
+use Rattle.placement.specs.Planning.{Call, PlanSums, layoutIn, planAfter, holdingFor, holdingCall, verdict, answerFor}
+use Rattle.placement.specs.PlanPromise.{PlanPromise}
+use Rattle.placement.specs.WellFormed.{Each, Entry, CallWellFormed}
+use Rattle.placement.proofs.Conjunctions.{both-true, false-true}
+use Rattle.placement.proofs.Racks.{accepted-disks, accepted-allSlots}
+use Rattle.placement.proofs.Formed.{disk-entries, plan-rack, plan-disks}
+use Rattle.placement.proofs.MarkedCopies.{marked-none}
+use Rattle.placement.proofs.ReadBack.{places-length}
+use Rattle.placement.proofs.Calls.{call-wellFormed}
+use Rattle.plan_text.specs.Held.{unusedZeroFrom}
+use Rattle.plan_text.specs.ReadCall.{Told, toldNothing, answerTo, textVerdict, judging}
+use Rattle.plan_text.proofs.OwnTables.{own-reading, own-rack, own-held, own-wellFormed}
+use Rattle.plan_text.proofs.Verdicts.{verdict-wellFormed, verdict-eight}
+use Rattle.reader.specs.Promise.{ReadPromise}
+use Rattle.plan_after.specs.Marking.{markedPlaces}
+use Rattle.plan_after.specs.Held.{NoneUnused, HeldBefore}
+use Rattle.plan_after.proofs.MarkedTables.{places-marked}
+use Rattle.plan_after.proofs.AfterPromise.{halves, layout-accepted, wide, lengths-same, planning-is, tables-are}
+
+-- A call that is not refused, planned and then marked by what was held.
+module _ (c : Call) (t : Tables) (e : verdict c t ≡ given tt) (earlier : List (List Item)) (films : Each NoneUnused earlier) where
+  formed : CallWellFormed c
+  formed = call-wellFormed c t e
+
+  -- Marking the copy table of the plan gives that of the marked plan.
+  copies-marked :
+      written (markedPlaces (c .rack) (holdingCall c t .copies) earlier) (holdingCall c t .copies)
+      ≡ written (places (c .rack) (halves c t formed earlier)) (t .copies)
+  copies-marked =
+      ap (λ (l : List (List Item)). written (markedPlaces (c .rack) (written (places (c .rack) l) (t .copies)) earlier) (written (places (c .rack) l) (t .copies)))
+      (marked-none (layoutIn c))
+      ∙ places-marked (c .rack) (layoutIn c) earlier (drop (length (places (c .rack) (layoutIn c))) (t .copies)) (layout-accepted c t formed earlier) films
+      ∙ ap (λ (n : ℕ). places (c .rack) (halves c t formed earlier) ++ drop n (t .copies))
+      (places-length (c .rack) (layoutIn c) (layout-accepted c t formed earlier) ∙ sym (wide c t formed earlier))
+
+  -- Planning keeps its promise, and marking leaves the marked plan.
+  pub marked-plan :
+      {exit : Tables} {answer : Numbers PlanSums} {copies : List ℕ} → PlanPromise c t exit answer
+      → copies ≡ written (markedPlaces (c .rack) (exit .copies) earlier) (exit .copies)
+      → (answer ≡ answerFor c (given tt)) × (tables copies (exit .counts) (exit .left) ≡ holdingFor c (planAfter earlier c) t)
+  marked-plan {exit} {answer} {copies} promise marks = (promise .numbers ∙ planning-is c t (given tt) e, after)
+    where
+      same : exit ≡ holdingCall c t
+      same = promise .tables ∙ tables-are c t (given tt) e
+
+      after : tables copies (exit .counts) (exit .left) ≡ holdingFor c (planAfter earlier c) t
+      after =
+          ap₂ (λ (a : List ℕ) (x : Tables). tables a (x .counts) (x .left))
+          (marks ∙ ap (λ (x : Tables). written (markedPlaces (c .rack) (x .copies) earlier) (x .copies)) same ∙ copies-marked) same
+          ∙ ap (λ (l : List ℕ). tables (written (places (c .rack) (halves c t formed earlier)) (t .copies)) (written l (t .counts)) (holdingCall c t .left))
+          (sym (lengths-same c t formed earlier))
+
+-- The copies of accepted disks have no film 0.
+entries-used : (most : ℕ) (xs : List Item) → Each (Entry most) xs → NoneUnused xs
+entries-used most [] entries = refl
+entries-used most (x ∷ xs) entries =
+    let other : eqb 0 (x .film) ≡ false = ne-eqb 0 (x .film) (λ same. omega (arith, entries .0 .filmLeast)) in
+    ap (λ (b : Bool). cond b 1 0 + occurrences 0 xs) other ∙ (let rest : 0 + occurrences 0 xs ≡ 0 = omega (arith, entries-used most xs (entries .1)) in rest)
+
+disks-used : (rack : List Disk) (layout : List (List Item)) → disksAccepted rack layout ≡ true → Each NoneUnused layout
+disks-used [] [] e = tt
+disks-used [] (xs ∷ layout) e = false-true e
+disks-used (d ∷ ds) [] e = false-true e
+disks-used (d ∷ ds) (xs ∷ layout) e =
+    let both = both-true (diskAccepted d xs) (disksAccepted ds layout) e in
+    (entries-used (d .load) xs (disk-entries d xs (both .0)), disks-used ds layout (both .1))
+
+-- A verdict by its numbers.
+verdict-refused : (w : Verdict Plan) (n s : ℕ) → 1 ≤ n → answerTo w ≡ record { refusal = n; second = s; values = toldNothing } → w ≡ refused n s
+verdict-refused (given p) n s some e = let none : 0 ≡ n = ap (λ (a : Numbers Told). a .refusal) e in absurd (omega arith)
+verdict-refused (refused m r) n s some e = ap₂ (λ (a b : ℕ). refused a b) (ap (λ (a : Numbers Told). a .refusal) e) (ap (λ (a : Numbers Told). a .second) e)
+
+-- An earlier text, read into a list of at least 64 disks and tables of zeros.
+module _ (text : List ℕ) (lent : List Disk) (enough : mostDisks ≤ length lent) {rackExit : List Disk} {exit : Tables} {answer : Numbers Told}
+    (promise : ReadPromise text lent ownTables rackExit exit answer) where
+  judged : answer ≡ answerTo (textVerdict text)
+  unfolding judging
+  judged = promise .numbers ∙ own-reading text lent enough
+
+  -- It is refused.
+  pub read-refused : (r : Refusal) → answer ≡ record { refusal = numberOf r; second = secondOf r; values = toldNothing } → textVerdict text ≡ refused (numberOf r) (secondOf r)
+  read-refused r is = verdict-refused (textVerdict text) (numberOf r) (secondOf r) (number-some r) (sym judged ∙ is)
+
+  -- Or it is the text of a plan with the disks told.
+  pub read-given :
+      (values : Told) → answer ≡ record { refusal = 0; second = 0; values = values }
+      → (p : Plan) × (textVerdict text ≡ given p) × (values .disks ≡ length (p .rack))
+  read-given values is = go (textVerdict text) refl (sym judged ∙ is)
+    where
+      go : (w : Verdict Plan) → textVerdict text ≡ w → answerTo w ≡ record { refusal = 0; second = 0; values = values }
+          → (p : Plan) × (textVerdict text ≡ given p) × (values .disks ≡ length (p .rack))
+      go (given p) e a = (p, e, sym (ap (λ (x : Numbers Told). x .values .disks) a))
+      go (refused n s) e a =
+          let none : n ≡ 0 = ap (λ (x : Numbers Told). x .refusal) a in
+          let eight : n ≡ 8 = verdict-eight text n s e (λ nine. omega arith) .0 in
+          absurd (omega arith)
+
+  module _ (p : Plan) (e : textVerdict text ≡ given p) where
+    formed-read : wellFormed p ≡ true
+    formed-read = verdict-wellFormed text p e
+
+    -- It has at most 64 disks,
+    pub rack-few : length (p .rack) ≤ mostDisks
+    rack-few = accepted-disks (p .rack) (plan-rack p formed-read) .1
+
+    -- the list begins with its rack,
+    pub rack-read : take (length (p .rack)) rackExit ≡ p .rack
+    rack-read = ap (take (length (p .rack))) (promise .rack) ∙ own-rack text lent enough p e
+
+    -- the tables hold its copies,
+    pub copies-read : markedFrom (p .rack) (exit .copies) (exit .counts) ≡ p .copies
+    copies-read =
+        ap (λ (t : Tables). planHeld (p .rack) t (length (p .left)) .copies) (promise .tables)
+        ∙ ap (λ (q : Plan). q .copies) (own-held text lent enough p e)
+
+    -- and marks may be set by them.
+    pub held-before : length (exit .copies) ≡ 2048 → length (exit .counts) ≡ 64 → HeldBefore (p .rack) (exit .copies) (exit .counts)
+    held-before copies counts = record {
+      room = record {
+        copyPlaces = omega (arith, copies, accepted-allSlots (p .rack) (plan-rack p formed-read));
+        countPlaces = omega (arith, counts, accepted-disks (p .rack) (plan-rack p formed-read) .1);
+      };
+      unused =
+          ap (λ (t : Tables). unusedZeroFrom (p .rack) (t .copies) (t .counts)) (promise .tables)
+          ∙ both-true _ _ (own-wellFormed text lent enough p e) .0;
+      films =
+          subst (λ (l : List (List Copy)). Each NoneUnused (layoutOf l)) (sym copies-read)
+          (disks-used (p .rack) (layoutOf (p .copies)) (plan-disks p formed-read));
+    }

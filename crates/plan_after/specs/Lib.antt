@@ -1,0 +1,4 @@
+pub mod After
+pub mod AfterPromise
+pub mod Marking
+pub mod Held

@@ -1,0 +1,117 @@
+// Planning after an earlier plan: the plan of a demand list, and a mark at each copy that the same disk held before.
+mod mark; // mark.rt: marks in the copy table
+
+use mark::mark_disks;
+use planner::Answer;
+use planner::judge_call;
+use planner::plan;
+use reader::ReadAnswer;
+use refusal::Judgement;
+ghost use mathlib.Core.Path.{_≡_};
+ghost use lib.ListN.{length};
+ghost use Rattle.refusal.specs.Verdict.{given};
+ghost use Rattle.placement.specs.Rack.{mostDisks};
+ghost use Rattle.placement.specs.Packed.{disksIn};
+ghost use Rattle.placement.specs.Tables.{tables, ownTables};
+ghost use Rattle.placement.specs.Planning.{call, verdict};
+ghost use Rattle.planner.specs.Answers.{planNumbers};
+ghost use Rattle.plan_after.specs.AfterPromise.{PlanAfterPromise};
+ghost use Rattle.plan_after.specs.Held.{HeldBefore, MarkedPlan};
+
+// The plan of a call that is not refused, marked by what the disks of an earlier plan held.
+fn plan_marked(
+    rack: &[u64],
+    list: &[u8],
+    copies: &mut [u64],
+    counts: &mut [u32],
+    left: &mut [u64],
+    heldrack: &[u64],
+    heldcopies: &[u64],
+    heldcounts: &[u32],
+) -> Answer
+    requires { ⌜ verdict (call (disksIn (now rack)) (now list)) (tables (now copies) (now counts) (now left)) ≡ given tt ⌝ }
+    requires { ⌜ HeldBefore (disksIn (now heldrack)) (now heldcopies) (now heldcounts) ⌝ }
+    ensures { λ r. ⌜ MarkedPlan (call (disksIn (now (rack .entry))) (now (list .entry)))
+        (disksIn (now (heldrack .entry))) (now (heldcopies .entry)) (now (heldcounts .entry))
+        (tables (now (copies .entry)) (now (counts .entry)) (now (left .entry)))
+        (tables (now (copies .exit)) (now (counts .exit)) (now (left .exit))) (planNumbers r) ⌝ }
+{
+    let answer = plan(rack, list, copies, counts, left);
+    mark_disks(rack, copies, heldrack, heldcopies, heldcounts);
+    answer
+}
+
+// The same after an earlier text, which is read into 64 packed disks and tables of zeros.
+fn plan_with(
+    rack: &[u64],
+    list: &[u8],
+    earlier: &[u8],
+    copies: &mut [u64],
+    counts: &mut [u32],
+    left: &mut [u64],
+    heldrack: &mut [u64],
+    heldcopies: &mut [u64],
+    heldcounts: &mut [u32],
+    heldleft: &mut [u64],
+) -> Answer
+    requires { ⌜ verdict (call (disksIn (now rack)) (now list)) (tables (now copies) (now counts) (now left)) ≡ given tt ⌝ }
+    requires { ⌜ (length (now heldrack) ≡ mostDisks) × (tables (now heldcopies) (now heldcounts) (now heldleft) ≡ ownTables) ⌝ }
+    ensures { λ r. ⌜ PlanAfterPromise
+        (call (disksIn (now (rack .entry))) (now (list .entry))) (now (earlier .entry))
+        (tables (now (copies .entry)) (now (counts .entry)) (now (left .entry)))
+        (tables (now (copies .exit)) (now (counts .exit)) (now (left .exit)))
+        (planNumbers r) ⌝ }
+{
+    let read = reader::read(earlier, heldrack, heldcopies, heldcounts, heldleft);
+    match read {
+        ReadAnswer::Refused(refusal) => Answer::Refused(refusal),
+        ReadAnswer::Plan(held) => plan_marked(
+            rack,
+            list,
+            copies,
+            counts,
+            left,
+            &heldrack[..held.disks as usize],
+            heldcopies,
+            heldcounts,
+        ),
+    }
+}
+
+// Plans for a rack of disks, one number each, from the bytes of a demand list and of an earlier plan's text. The plan goes into the lent tables, each copy
+// marked whose film the same disk held in the earlier plan. A refusal changes none of them.
+pub fn plan_after(
+    rack: &[u64],
+    list: &[u8],
+    earlier: &[u8],
+    copies: &mut [u64],
+    counts: &mut [u32],
+    left: &mut [u64],
+) -> Answer
+    ensures { λ r. ⌜ PlanAfterPromise
+        (call (disksIn (now (rack .entry))) (now (list .entry))) (now (earlier .entry))
+        (tables (now (copies .entry)) (now (counts .entry)) (now (left .entry)))
+        (tables (now (copies .exit)) (now (counts .exit)) (now (left .exit)))
+        (planNumbers r) ⌝ }
+{
+    let judged = judge_call(rack, list, copies.len(), counts.len(), left.len());
+    if let Judgement::Refused(refusal) = judged {
+        return Answer::Refused(refusal);
+    }
+    let mut heldrack = [0u64; 64];
+    let mut heldcopies = [0u64; 2048];
+    let mut heldcounts = [0u32; 64];
+    let mut heldleft = [0u64; 1024];
+    plan_with(
+        rack,
+        list,
+        earlier,
+        copies,
+        counts,
+        left,
+        &mut heldrack,
+        &mut heldcopies,
+        &mut heldcounts,
+        &mut heldleft,
+    )
+}
