@@ -4,3 +4,4 @@ pub mod MarkedAt
 pub mod AfterPromise
 pub mod Steps
 pub mod LongRacks
+pub mod AfterExamplesHold

@@ -1,0 +1,22 @@
+-- The rows of planning after an earlier plan, proved by computation on the definitions.
+use mathlib.Core.Path.{_≡_, refl}
+use mathlib.Core.List.{[], _∷_, map}
+use Rattle.placement.specs.Items.{_∶_}
+use Rattle.placement.specs.Copies.{copy}
+use Rattle.placement.specs.Rack.{rackOf}
+use Rattle.placement.specs.Tables.{tables, copyEntry}
+use Rattle.plan_text.specs.Decimal.{decimal}
+use Rattle.plan_text.specs.Reading.{planRead}
+use Rattle.plan_after.specs.After.{planningAfter, tablesAfterEarlier, withoutMarks}
+use Rattle.plan_after.specs.AfterExamples.{afterRows, outcomeAfter, expectedAfter}
+
+-- Every row's outcome, the answer and all lent tables, is the one expected.
+pub after-hold : map outcomeAfter afterRows ≡ map expectedAfter afterRows
+unfolding planningAfter tablesAfterEarlier planRead decimal
+after-hold = refl
+
+-- Tables without their marks: the places of the rack alone are cleared.
+pub without-hold :
+    withoutMarks (rackOf 1 2 5) (tables (copyEntry (copy 7 1 4) ∷ copyEntry (copy 8 0 1) ∷ copyEntry (copy 9 1 1) ∷ []) (2 ∷ []) (65545 ∷ []))
+    ≡ tables (copyEntry (copy 7 0 4) ∷ copyEntry (copy 8 0 1) ∷ copyEntry (copy 9 1 1) ∷ []) (2 ∷ []) (65545 ∷ [])
+without-hold = refl
