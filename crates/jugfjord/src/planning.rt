@@ -10,6 +10,7 @@ ghost use Rattle.placement.specs.Tables.{tables};
 ghost use Rattle.placement.specs.Planning.{call};
 ghost use Rattle.placement.specs.PlanPromise.{PlanPromise};
 ghost use Rattle.disk_entries.specs.Entries.{disksOfEntries, heldDisks};
+ghost use Rattle.plan_after.specs.AfterPromise.{PlanAfterPromise};
 ghost use Rattle.planner.specs.Answers.{planNumbers};
 ghost use Rattle.planner.specs.declared.answer.Answer.the-variants.{Refused};
 ghost use Rattle.jugfjord.specs.Numbers.{plannedFields};
@@ -94,4 +95,43 @@ pub extern "C" fn jugfjord_plan(
         (plannedFields r) ⌝ }
 {
     plan_packed(pack(rack), list, copies, counts, left)
+}
+
+// Planning after an earlier plan, with packed disks.
+fn plan_after_packed(
+    rack: PackedDisks,
+    list: &[u8],
+    earlier: &[u8],
+    copies: &mut [u64],
+    counts: &mut [u32],
+    left: &mut [u64],
+) -> Planned
+    ensures { λ r. ⌜ PlanAfterPromise
+        (call (heldDisks rack) (now (list .entry))) (now (earlier .entry))
+        (tables (now (copies .entry)) (now (counts .entry)) (now (left .entry)))
+        (tables (now (copies .exit)) (now (counts .exit)) (now (left .exit)))
+        (plannedFields r) ⌝ }
+{
+    let count = held_count(rack);
+    let disks = rack.disks;
+    planned_numbers(plan_after::plan_after(&disks[..count], list, earlier, copies, counts, left))
+}
+
+// `plan_after::plan_after` with lent entries. Proved by a walk.
+#[no_mangle]
+pub extern "C" fn jugfjord_plan_after(
+    rack: &[DiskEntry],
+    list: &[u8],
+    earlier: &[u8],
+    copies: &mut [u64],
+    counts: &mut [u32],
+    left: &mut [u64],
+) -> Planned
+    ensures { λ r. ⌜ PlanAfterPromise
+        (call (disksOfEntries (now (rack .entry))) (now (list .entry))) (now (earlier .entry))
+        (tables (now (copies .entry)) (now (counts .entry)) (now (left .entry)))
+        (tables (now (copies .exit)) (now (counts .exit)) (now (left .exit)))
+        (plannedFields r) ⌝ }
+{
+    plan_after_packed(pack(rack), list, earlier, copies, counts, left)
 }

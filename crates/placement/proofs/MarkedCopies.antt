@@ -1,6 +1,6 @@
 -- Copies with marks: without them they are the layout that was marked, and they are read back from the halves of their entries.
 use mathlib.Core.Path.{_≡_, refl, ap, ap₂, _∙_}
-use mathlib.Core.Bool.{Bool, true, false, cond, _&&_}
+use mathlib.Core.Bool.{Bool, true, false, cond}
 use mathlib.Core.List.{List, [], _∷_, map}
 use Prim.Native.Nat.{ℕ, _+_, _*_, _/_, _%_, _≤_, _<_}
 use native.Mathlib.Omega.{arith}
@@ -14,7 +14,7 @@ use Rattle.placement.specs.Method.{served}
 use Rattle.placement.specs.Plan.{diskAccepted, disksAccepted, marksAccepted, allMarksAccepted}
 use Rattle.placement.specs.WellFormed.{Each, Entry}
 use Rattle.placement.proofs.Conjunctions.{both-true, and-holds, false-true}
-use Rattle.placement.proofs.Formed.{disk-count, disk-entries}
+use Rattle.placement.proofs.Formed.{disk-entries}
 
 -- A mark is at most 1.
 pub mark-most : (held : List Item) (f : ℕ) → markFor held f ≤ 1

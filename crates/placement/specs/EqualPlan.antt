@@ -1,7 +1,7 @@
 -- The plan of document 01's rack of N equal disks, which are filled in order 1 to N.
 use Prim.Native.Nat.{ℕ}
 use mathlib.Core.List.{List, [], _++_}
-use Rattle.placement.specs.Items.{Item, listOf, byFilm}
+use Rattle.placement.specs.Items.{listOf, byFilm}
 use Rattle.placement.specs.Copies.{marked}
 use Rattle.placement.specs.Rack.{rackOf}
 use Rattle.placement.specs.Records.{recordsOf}

@@ -1,7 +1,6 @@
 -- The rows of planning after an earlier plan, proved by computation on the definitions.
 use mathlib.Core.Path.{_≡_, refl}
 use mathlib.Core.List.{[], _∷_, map}
-use Rattle.placement.specs.Items.{_∶_}
 use Rattle.placement.specs.Copies.{copy}
 use Rattle.placement.specs.Rack.{rackOf}
 use Rattle.placement.specs.Tables.{tables, copyEntry}

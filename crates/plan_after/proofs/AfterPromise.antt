@@ -15,7 +15,6 @@ use Rattle.placement.specs.Plan.{Plan, disksAccepted, wellFormed}
 use Rattle.placement.specs.Held.{copiesHeld}
 use Rattle.placement.specs.Records.{recordCount}
 use Rattle.placement.specs.Planning.{Call, PlanSums, layoutIn, planAfter, planIn, holdingFor, holdingCall, verdict, planning, tablesAfter, answerFor, tablesFor}
-use Rattle.placement.specs.PlanPromise.{PlanPromise}
 use Rattle.placement.specs.WellFormed.{CallWellFormed}
 use Rattle.placement.proofs.Formed.{plan-disks}
 use Rattle.placement.proofs.MarkedCopies.{marked-layout, marked-none, halves-lengths}
@@ -23,10 +22,9 @@ use Rattle.placement.proofs.Written.{written-front, written-behind}
 use Rattle.placement.proofs.ReadBack.{plan-fits, fits-length, padded-held}
 use Rattle.placement.proofs.Calls.{call-wellFormed, after-wellFormed}
 use Rattle.placement.proofs.PlanPromise.{verdict-numbered, plan-promise}
-use Rattle.plan_text.specs.Text.{textOf}
-use Rattle.plan_text.specs.ReadCall.{textVerdict, mostBytes}
+use Rattle.plan_text.specs.ReadCall.{textVerdict}
 use Rattle.plan_text.proofs.Verdicts.{verdict-text, verdict-line, verdict-eight, given-refused}
-use Rattle.plan_after.specs.After.{followedBy, verdictAfter, holdingAfter, answerAfter, tablesGivenAfter, planningAfter, tablesAfterEarlier, unmarkedEntry, withoutMarks}
+use Rattle.plan_after.specs.After.{followedBy, holdingAfter, answerAfter, tablesGivenAfter, planningAfter, tablesAfterEarlier, unmarkedEntry, withoutMarks}
 use Rattle.plan_after.specs.AfterPromise.{onDisk, copyAt, PlanAfterPromise}
 use Rattle.plan_after.proofs.MarkedTables.{places-unmarked}
 use Rattle.plan_after.proofs.MarkedAt.{marked-at}

@@ -1,6 +1,6 @@
 -- The copy table with marks: marking the places of a layout gives the places of the marked layout, and without marks they are those of the layout.
 use mathlib.Core.Path.{_≡_, refl, sym, ap, ap₂, _∙_}
-use mathlib.Core.Bool.{Bool, true, false, cond}
+use mathlib.Core.Bool.{Bool, true, cond}
 use mathlib.Core.List.{List, [], _∷_, map, _++_, append-assoc}
 use Prim.Native.Nat.{ℕ, zero, suc, _+_, _-_, _≤_, _<_}
 use native.Mathlib.Omega.{arith}
@@ -8,10 +8,10 @@ use borrow.Author.Tests.{ne-eqb, le-leb}
 use lib.Dec.{leb, eqb}
 use lib.ListN.{length, take, drop, replicate, length-map}
 use lib.Seq.{take-at, drop-at}
-use Rattle.placement.specs.Items.{Item, item, occurrences}
+use Rattle.placement.specs.Items.{Item, occurrences}
 use Rattle.placement.specs.Copies.{Copy, copy, unmarked, markedWith, halvesOf, copyOf, markFor, markedDisk, marked}
 use Rattle.placement.specs.Rack.{Disk}
-use Rattle.placement.specs.Tables.{entryOf, itemIn, copyIn, copyEntry, padded, places, written}
+use Rattle.placement.specs.Tables.{entryOf, copyIn, copyEntry, padded, places, written}
 use Rattle.placement.specs.Plan.{diskAccepted, disksAccepted}
 use Rattle.placement.specs.WellFormed.{Each, Entry}
 use Rattle.placement.proofs.Conjunctions.{both-true, false-true}

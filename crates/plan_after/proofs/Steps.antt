@@ -13,7 +13,7 @@ use Rattle.refusal.specs.declared.Refusal.{Refusal}
 use Rattle.refusal.proofs.Refusals.{number-some}
 use Rattle.placement.specs.Items.{Item, occurrences}
 use Rattle.placement.specs.Copies.{Copy, layoutOf}
-use Rattle.placement.specs.Rack.{Disk, mostDisks, allSlots}
+use Rattle.placement.specs.Rack.{Disk, mostDisks}
 use Rattle.placement.specs.Tables.{Tables, tables, ownTables, places, written}
 use Rattle.placement.specs.Plan.{Plan, diskAccepted, disksAccepted, wellFormed}
 use Rattle.placement.specs.Held.{markedFrom, planHeld}

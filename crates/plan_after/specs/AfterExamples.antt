@@ -5,7 +5,7 @@ use mathlib.Core.List.{List, [], _∷_, _++_, map}
 use lib.ListN.{length, replicate}
 use Rattle.refusal.specs.Verdict.{Numbers}
 use Rattle.placement.specs.Items.{Item, _∶_}
-use Rattle.placement.specs.Copies.{Copy, copy, markedWith}
+use Rattle.placement.specs.Copies.{Copy, copy}
 use Rattle.placement.specs.Rack.{Disk, disk, rackOf, allSlots}
 use Rattle.placement.specs.Tables.{Tables, tables, entryOf, copyEntry}
 use Rattle.placement.specs.Planning.{Call, call, PlanSums, sums}

@@ -6,54 +6,54 @@ use native.Mathlib.Omega.{arith}
 use lib.ListN.{length}
 use Rattle.placement.specs.Items.{Item}
 use Rattle.placement.specs.Copies.{Copy}
+use Rattle.placement.specs.WellFormed.{Each}
 use Rattle.plan_text.specs.Ascii.{ascii}
 use Rattle.plan_text.specs.Decimal.{decimal}
-use Rattle.plan_text.specs.Text.{space, closed, pairsText, copiesText, rackLine, servedLine}
-use Rattle.plan_text.specs.Parse.{Parse, parsed, next, byte, literal, number, pairs, copies}
+use Rattle.plan_text.specs.Text.{space, closed, pairText, spacedText, pairsText, copyText, copiesText, rackLine, servedLine}
+use Rattle.plan_text.specs.Parse.{Parse, parsed, next, byte, literal, number, pair, copyRead, spacedRead}
 use Rattle.plan_text.specs.Reading.{Sizes, rackBody, pairsBody, copiesBody}
 use Rattle.plan_text.proofs.Pieces.{parsed-value, parsed-rest, next-parsed, byte-sound, literal-sound, literal-complete}
 use Rattle.plan_text.proofs.Numbers.{Faithful, most, number-sound, number-complete}
-use Rattle.plan_text.proofs.Pairs.{SmallItems, pairs-sound, pairs-complete}
-use Rattle.plan_text.proofs.CopyTexts.{SmallCopies, copies-sound, copies-complete}
+use Rattle.plan_text.proofs.Spaced.{spaced-sound, spaced-complete}
+use Rattle.plan_text.proofs.Pairs.{SmallItem, SmallItems, pair-sound, pair-complete}
+use Rattle.plan_text.proofs.CopyTexts.{SmallCopy, SmallCopies, copy-sound, copy-complete}
 use Rattle.plan_text.proofs.Grammar.{Body}
+
+-- A head and values, one behind the other: at most n small values are read.
+module _ {A : Type 0} (one : List ℕ → Parse A) (text : A → List ℕ) (Small : A → Type 0)
+    (sound : (t : List ℕ) (x : A) (r : List ℕ) → one t ≡ parsed x r → Small x → t ≡ text x ++ r)
+    (complete : (x : A) (r : List ℕ) → Small x → one (text x ++ r) ≡ parsed x r) (head : List ℕ) (n : ℕ) where
+  abbrev read : List ℕ → Parse (List A)
+  read t = next (literal head t) (λ u s. spacedRead one n s)
+
+  spaced-body : Body read (λ xs. head ++ spacedText text xs) (λ xs. (length xs ≤ n) × Each Small xs)
+  spaced-body = record {
+    sound = λ t xs r e small.
+        next-parsed (literal head t) _ e (λ u t₁ e₁ d₁.
+        literal-sound head t t₁ e₁
+        ∙ ap (λ (s : List ℕ). head ++ s) (spaced-sound one text Small sound complete n t₁ xs r d₁ (small .1))
+        ∙ sym (append-assoc head (spacedText text xs) r));
+    complete = λ xs r small.
+        ap read (append-assoc head (spacedText text xs) r)
+        ∙ ap (λ (p : Parse (Unit {0})). next p (λ u t. spacedRead one n t)) (literal-complete head (spacedText text xs ++ r))
+        ∙ spaced-complete one text Small sound complete n xs r (small .0) (small .1);
+  }
 
 -- At most so many pairs, and small ones.
 abbrev pub FewItems : ℕ → List Item → Type 0
 FewItems n xs = (length xs ≤ n) × SmallItems xs
 
--- A head and pairs: at most n small pairs are read.
 pub pairs-body : {cap : ℕ → ℕ} → Faithful cap → (head : List ℕ) (n : ℕ)
     → Body (pairsBody cap head n) (λ xs. head ++ pairsText xs) (FewItems n)
-pairs-body {cap} f head n = record {
-  sound = λ t xs r e small.
-      next-parsed (literal head t) _ e (λ u t₁ e₁ d₁.
-      literal-sound head t t₁ e₁
-      ∙ ap (λ (s : List ℕ). head ++ s) (pairs-sound f n t₁ xs r d₁ (small .1))
-      ∙ sym (append-assoc head (pairsText xs) r));
-  complete = λ xs r small.
-      ap (pairsBody cap head n) (append-assoc head (pairsText xs) r)
-      ∙ ap (λ (p : Parse (Unit {0})). next p (λ u t. pairs cap n t)) (literal-complete head (pairsText xs ++ r))
-      ∙ pairs-complete f n xs r (small .0) (small .1);
-}
+pairs-body {cap} f = spaced-body (pair cap) pairText SmallItem (pair-sound f) (pair-complete f)
 
 -- At most so many copies, and small ones.
 abbrev pub FewCopies : ℕ → List Copy → Type 0
 FewCopies n cs = (length cs ≤ n) × SmallCopies cs
 
--- A head and copies: at most n small copies are read.
 pub copies-body : {cap : ℕ → ℕ} → Faithful cap → (head : List ℕ) (n : ℕ)
     → Body (copiesBody cap head n) (λ cs. head ++ copiesText cs) (FewCopies n)
-copies-body {cap} f head n = record {
-  sound = λ t cs r e small.
-      next-parsed (literal head t) _ e (λ u t₁ e₁ d₁.
-      literal-sound head t t₁ e₁
-      ∙ ap (λ (s : List ℕ). head ++ s) (copies-sound f n t₁ cs r d₁ (small .1))
-      ∙ sym (append-assoc head (copiesText cs) r));
-  complete = λ cs r small.
-      ap (copiesBody cap head n) (append-assoc head (copiesText cs) r)
-      ∙ ap (λ (p : Parse (Unit {0})). next p (λ u t. copies cap n t)) (literal-complete head (copiesText cs ++ r))
-      ∙ copies-complete f n cs r (small .0) (small .1);
-}
+copies-body {cap} f = spaced-body (copyRead cap) copyText SmallCopy (copy-sound f) (copy-complete f)
 
 -- The served line is a literal.
 pub served-body : (s u : ℕ) → Body (literal (servedLine s u)) (λ a. servedLine s u) (λ a. Unit {0})

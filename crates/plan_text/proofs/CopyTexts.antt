@@ -1,26 +1,24 @@
 -- Reading copies with their marks: what is read is the copies' text, and their text is read.
 use mathlib.Core.Path.{_≡_, refl, sym, ap, _∙_, subst}
-use mathlib.Core.List.{List, [], _∷_, _++_}
+use mathlib.Core.List.{List, _∷_, _++_}
 use Prim.Native.Nat.{ℕ, zero, suc, _≤_}
 use native.Mathlib.Omega.{arith}
 use borrow.Author.Tests.{le-leb}
 use lib.Dec.{leb}
-use lib.ListN.{length}
 use Rattle.placement.specs.Items.{Item}
 use Rattle.placement.specs.Copies.{Copy, unmarked, markedWith}
 use Rattle.placement.specs.Rack.{mostPlanFilm}
 use Rattle.placement.specs.WellFormed.{Each}
 use Rattle.placement.proofs.Conjunctions.{cond-true}
 use Rattle.plan_text.specs.Ascii.{ascii}
-use Rattle.plan_text.specs.Text.{space, closed, markEnd, copyText, copiesText}
-use Rattle.plan_text.specs.Parse.{Parse, parsed, unparsed, next, byte, literal, pairStart, markRead, copyEnd, copyRead, copies}
+use Rattle.plan_text.specs.Text.{space, closed, markEnd, copyText}
+use Rattle.plan_text.specs.Parse.{Parse, parsed, unparsed, next, byte, literal, pairStart, markRead, copyEnd, copyRead}
 use Rattle.plan_text.proofs.Pieces.{parsed-value, parsed-rest, next-parsed, orElse-parsed, chosen-parsed, byte-sound, literal-sound}
 use Rattle.plan_text.proofs.Numbers.{Faithful, most}
 use Rattle.plan_text.proofs.Pairs.{SmallItem, startBefore, start-append, start-sound, start-complete}
-use Rattle.plan_text.proofs.Spaced.{spaced-sound, spaced-complete}
 
 -- A copy has small numbers and a mark of 0 or 1.
-abbrev SmallCopy : Copy → Type 0
+abbrev pub SmallCopy : Copy → Type 0
 SmallCopy c = (c .film ≤ mostPlanFilm) × (c .mark ≤ 1) × (c .viewers ≤ most)
 
 -- Every copy of a list does.
@@ -52,7 +50,7 @@ copy-append : (c : Copy) (r : List ℕ) → copyText c ++ r ≡ startBefore (unm
 copy-append c r = start-append (unmarked c) (markEnd (c .mark)) r
 
 -- What is read as a copy is the copy's text, and the text of a copy is read.
-copy-sound : {cap : ℕ → ℕ} → Faithful cap → (t : List ℕ) (c : Copy) (r : List ℕ)
+pub copy-sound : {cap : ℕ → ℕ} → Faithful cap → (t : List ℕ) (c : Copy) (r : List ℕ)
     → copyRead cap t ≡ parsed c r → SmallCopy c → t ≡ copyText c ++ r
 copy-sound {cap} f t c r e small =
     next-parsed (pairStart cap t) _ e (λ x t₁ e₁ d₁.
@@ -67,7 +65,7 @@ copy-sound {cap} f t c r e small =
     ∙ ap (λ (s : List ℕ). startBefore (unmarked c) (markEnd (c .mark) ++ s)) (parsed-rest d₃)
     ∙ sym (copy-append c r))))
 
-copy-complete : {cap : ℕ → ℕ} → Faithful cap → (c : Copy) (r : List ℕ) → SmallCopy c → copyRead cap (copyText c ++ r) ≡ parsed c r
+pub copy-complete : {cap : ℕ → ℕ} → Faithful cap → (c : Copy) (r : List ℕ) → SmallCopy c → copyRead cap (copyText c ++ r) ≡ parsed c r
 copy-complete {cap} f c r small =
     ap (copyRead cap) (copy-append c r)
     ∙ ap (λ (p : Parse Item). next p copyEnd)
@@ -82,12 +80,3 @@ copy-complete {cap} f c r small =
     start : (m : ℕ) → pairStart cap (startBefore (unmarked c) (markEnd m ++ r)) ≡ parsed (unmarked c) (markEnd m ++ r)
     start zero = start-complete f (unmarked c) closed r smalls refl
     start (suc m) = start-complete f (unmarked c) space (ascii "held)" ++ r) smalls refl
-
--- What is read as copies is their text, and the text of at most n copies is read.
-pub copies-sound : {cap : ℕ → ℕ} → Faithful cap → (n : ℕ) (t : List ℕ) (cs : List Copy) (r : List ℕ)
-    → copies cap n t ≡ parsed cs r → SmallCopies cs → t ≡ copiesText cs ++ r
-copies-sound {cap} f = spaced-sound (copyRead cap) copyText SmallCopy (copy-sound f) (copy-complete f)
-
-pub copies-complete : {cap : ℕ → ℕ} → Faithful cap → (n : ℕ) (cs : List Copy) (r : List ℕ) → length cs ≤ n → SmallCopies cs
-    → copies cap n (copiesText cs ++ r) ≡ parsed cs r
-copies-complete {cap} f = spaced-complete (copyRead cap) copyText SmallCopy (copy-sound f) (copy-complete f)

@@ -4,15 +4,13 @@ use mathlib.Core.Bool.{false}
 use mathlib.Core.List.{List, [], _∷_, _++_, append-assoc}
 use Prim.Native.Nat.{ℕ, _≤_}
 use native.Mathlib.Omega.{arith}
-use lib.ListN.{length}
 use Rattle.placement.specs.Items.{Item, item}
 use Rattle.placement.specs.WellFormed.{Each}
 use Rattle.plan_text.specs.Decimal.{decimal}
-use Rattle.plan_text.specs.Text.{space, opened, closed, pairText, pairsText}
-use Rattle.plan_text.specs.Parse.{Parse, parsed, next, byte, isDigit, number, pairStart, pair, pairs}
+use Rattle.plan_text.specs.Text.{space, opened, closed, pairText}
+use Rattle.plan_text.specs.Parse.{Parse, parsed, next, byte, isDigit, number, pairStart, pair}
 use Rattle.plan_text.proofs.Pieces.{parsed-value, parsed-rest, next-parsed, byte-sound}
 use Rattle.plan_text.proofs.Numbers.{Faithful, most, number-sound, number-complete}
-use Rattle.plan_text.proofs.Spaced.{spaced-sound, spaced-complete}
 
 -- Both numbers of a pair are at most 1,000,000.
 abbrev pub SmallItem : Item → Type 0
@@ -62,7 +60,7 @@ start-complete {cap} f x b r small other =
     ∙ ap (λ (p : Parse ℕ). next p (λ amount t₄. parsed (item (x .film) amount) t₄)) (number-complete f (x .amount) b r (small .1) other)
 
 -- What is read as a pair is the pair's text, and the text of a pair is read.
-pair-sound : {cap : ℕ → ℕ} → Faithful cap → (t : List ℕ) (x : Item) (r : List ℕ)
+pub pair-sound : {cap : ℕ → ℕ} → Faithful cap → (t : List ℕ) (x : Item) (r : List ℕ)
     → pair cap t ≡ parsed x r → SmallItem x → t ≡ pairText x ++ r
 pair-sound {cap} f t x r e small =
     next-parsed (pairStart cap t) _ e (λ y t₁ e₁ d₁.
@@ -73,16 +71,7 @@ pair-sound {cap} f t x r e small =
     ∙ ap (λ (z : Item). startBefore z (closed ∷ r)) same
     ∙ sym (start-append x (closed ∷ []) r)))
 
-pair-complete : {cap : ℕ → ℕ} → Faithful cap → (x : Item) (r : List ℕ) → SmallItem x → pair cap (pairText x ++ r) ≡ parsed x r
+pub pair-complete : {cap : ℕ → ℕ} → Faithful cap → (x : Item) (r : List ℕ) → SmallItem x → pair cap (pairText x ++ r) ≡ parsed x r
 pair-complete {cap} f x r small =
     ap (pair cap) (start-append x (closed ∷ []) r)
     ∙ ap (λ (p : Parse Item). next p (λ y t₁. next (byte closed t₁) (λ u t₂. parsed y t₂))) (start-complete f x closed r small refl)
-
--- What is read as pairs is their text, and the text of at most n pairs is read.
-pub pairs-sound : {cap : ℕ → ℕ} → Faithful cap → (n : ℕ) (t : List ℕ) (xs : List Item) (r : List ℕ)
-    → pairs cap n t ≡ parsed xs r → SmallItems xs → t ≡ pairsText xs ++ r
-pairs-sound {cap} f = spaced-sound (pair cap) pairText SmallItem (pair-sound f) (pair-complete f)
-
-pub pairs-complete : {cap : ℕ → ℕ} → Faithful cap → (n : ℕ) (xs : List Item) (r : List ℕ) → length xs ≤ n → SmallItems xs
-    → pairs cap n (pairsText xs ++ r) ≡ parsed xs r
-pairs-complete {cap} f = spaced-complete (pair cap) pairText SmallItem (pair-sound f) (pair-complete f)

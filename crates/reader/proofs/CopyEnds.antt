@@ -6,7 +6,7 @@ use Prim.Native.Nat.{ℕ, _+_, _*_}
 use native.Mathlib.Omega.{arith}
 use lib.Dec.{leb}
 use Rattle.placement.specs.Items.{Item, item}
-use Rattle.placement.specs.Copies.{Copy, markedWith, halvesOf}
+use Rattle.placement.specs.Copies.{markedWith, halvesOf}
 use Rattle.placement.specs.Rack.{mostPlanFilm}
 use Rattle.placement.proofs.MarkedCopies.{unmarked-halves}
 use Rattle.plan_text.specs.Text.{closed, markEnd}
@@ -27,6 +27,13 @@ module _ (x : Item) (p : Parse (Unit {0})) where
   abbrev byFilm : Bool → List ℕ → Parse Item
   byFilm fits t = next (cond fits (next (markRead t) (λ m s. parsed (markedWith m x) s)) unparsed) (λ c s. parsed (halvesOf c) s)
 
+  -- The same where its film is a plan's, by the bracket.
+  abbrev byBracket : Parse (Unit {0}) → List ℕ → Parse Item
+  byBracket closing t =
+      next
+      (next (orElse (next closing (λ u s. parsed 0 s)) (next (literal (markEnd 1) t) (λ u s. parsed 1 s))) (λ m s. parsed (markedWith m x) s))
+      (λ c s. parsed (halvesOf c) s)
+
   -- No plan has the film.
   pub end-large : leb (x .film) mostPlanFilm ≡ false → unparsed ≡ next p (λ u t. halvesEnd x t)
   end-large large = go p
@@ -40,17 +47,11 @@ module _ (x : Item) (p : Parse (Unit {0})) where
     pub end-closed : (s : List ℕ) → q ≡ parsed tt s → next q (λ u t. parsed x t) ≡ next p (λ u t. halvesEnd x t)
     end-closed s here = ap (λ (r : Parse (Unit {0})). next r (λ u t. parsed x t)) here ∙ go p (sym read ∙ here)
       where
-        by-mark : Parse (Unit {0}) → List ℕ → Parse Item
-        by-mark r t =
-            next
-            (next (orElse (next r (λ u s. parsed 0 s)) (next (literal (markEnd 1) t) (λ u s. parsed 1 s))) (λ m s. parsed (markedWith m x) s))
-            (λ c s. parsed (halvesOf c) s)
-
         go : (p : Parse (Unit {0})) → next p (λ u t. byte closed t) ≡ parsed tt s → parsed x s ≡ next p (λ u t. halvesEnd x t)
         go unparsed e = unparsed-parsed e
         go (parsed u t) e =
             ap (λ (y : Item). parsed y s) (sym (unmarked-halves x))
-            ∙ ap (λ (r : Parse (Unit {0})). by-mark r t) (sym e)
+            ∙ ap (λ (r : Parse (Unit {0})). byBracket r t) (sym e)
             ∙ ap (λ (b : Bool). byFilm b t) (sym fits)
 
     -- No bracket follows: `held` does, or the copy does not end.
@@ -68,18 +69,12 @@ module _ (x : Item) (p : Parse (Unit {0})) where
         one (parsed u s) = ap (λ (n : ℕ). parsed (item n (x .amount)) s) low
         one unparsed = refl
 
-        by-mark : Parse (Unit {0}) → List ℕ → Parse Item
-        by-mark z t =
-            next
-            (next (orElse (next z (λ u s. parsed 0 s)) (next (literal (markEnd 1) t) (λ u s. parsed 1 s))) (λ m s. parsed (markedWith m x) s))
-            (λ c s. parsed (halvesOf c) s)
-
         go : (p : Parse (Unit {0})) → next p (λ u t. byte closed t) ≡ unparsed
             → next (next p (λ u t. literal (markEnd 1) t)) (λ u t. parsed (item (x .film + 65536) (x .amount)) t) ≡ next p (λ u t. halvesEnd x t)
         go unparsed e = refl
         go (parsed u t) e =
             one (literal (markEnd 1) t)
-            ∙ ap (λ (z : Parse (Unit {0})). by-mark z t) (sym e)
+            ∙ ap (λ (z : Parse (Unit {0})). byBracket z t) (sym e)
             ∙ ap (λ (b : Bool). byFilm b t) (sym fits)
 
 -- The end of a copy behind a start that was read.

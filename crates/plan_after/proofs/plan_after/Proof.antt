@@ -1,8 +1,6 @@
 -- `plan_after::plan_after` keeps the promise of planning after an earlier plan: planning's refusals come first.
 use borrow.Author.Needs.{needs}
 use mathlib.Core.Path.{_≡_, refl, sym, ap, _∙_}
-use mathlib.Core.List.{List}
-use Prim.Native.Nat.{ℕ}
 use Rattle.refusal.specs.Verdict.{given}
 use Rattle.refusal.specs.Numbers.{judged}
 use Rattle.refusal.proofs.Judgements.{passes}

@@ -1,6 +1,5 @@
 -- `plan_after::plan_marked` meets its contract: the plan of the call, and then its marks.
 use borrow.Author.Needs.{needs}
-use mathlib.Core.Path.{_≡_}
 use mathlib.Core.List.{List}
 use native.Mathlib.Omega.{arith}
 use Rattle.placement.specs.Items.{Item}

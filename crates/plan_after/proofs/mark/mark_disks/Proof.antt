@@ -7,7 +7,7 @@ use native.Mathlib.Omega.{arith}
 use lib.ListN.{length, take, drop, getD}
 use borrow.Rule.Slice.PartMut.{same-len-mid}
 use Rattle.placement.specs.Items.{Item}
-use Rattle.placement.specs.Copies.{Copy, unmarked, layoutOf}
+use Rattle.placement.specs.Copies.{unmarked, layoutOf}
 use Rattle.placement.specs.Rack.{Disk}
 use Rattle.placement.specs.Packed.{diskIn, disksIn}
 use Rattle.placement.specs.Tables.{copiesIn, written}
