@@ -5,7 +5,7 @@ use mathlib.Core.List.{List, [], map, _++_}
 use Prim.Native.Nat.{ℕ, _≤_, _<_}
 use native.Mathlib.Omega.{arith}
 use lib.ListN.{length, take, drop}
-use Rattle.refusal.specs.Verdict.{Verdict, given, refused, Numbers}
+use Rattle.refusal.specs.Verdict.{Verdict, given, refused, followedBy, Numbers, afterwards}
 use Rattle.refusal.proofs.Verdicts.{Numbered}
 use Rattle.placement.specs.Items.{Item}
 use Rattle.placement.specs.Copies.{Copy, layoutOf, halvesOf, markFor, marked}
@@ -24,7 +24,7 @@ use Rattle.placement.proofs.Calls.{call-wellFormed, after-wellFormed}
 use Rattle.placement.proofs.PlanPromise.{verdict-numbered, plan-promise}
 use Rattle.plan_text.specs.ReadCall.{textVerdict}
 use Rattle.plan_text.proofs.Verdicts.{verdict-text, verdict-line, verdict-eight, given-refused}
-use Rattle.plan_after.specs.After.{followedBy, holdingAfter, answerAfter, tablesGivenAfter, planningAfter, tablesAfterEarlier, unmarkedEntry, withoutMarks}
+use Rattle.plan_after.specs.After.{holdingAfter, answerAfter, tablesGivenAfter, planningAfter, tablesAfterEarlier, unmarkedEntry, withoutMarks}
 use Rattle.plan_after.specs.AfterPromise.{onDisk, copyAt, PlanAfterPromise}
 use Rattle.plan_after.proofs.MarkedTables.{places-unmarked}
 use Rattle.plan_after.proofs.MarkedAt.{marked-at}
@@ -102,7 +102,7 @@ module _ (c : Call) (text : List ℕ) (t : Tables) where
     places-are = ap₂ (λ (a : Verdict (Unit {0})) (b : Verdict Plan). tablesGivenAfter c t (followedBy a b)) (sym e) (sym f)
 
   -- A refusal of planning comes first.
-  pub refused-first :
+  refused-first :
       (n s : ℕ) (w : Verdict Plan) → verdict c t ≡ refused n s → textVerdict text ≡ w
       → PlanAfterPromise c text t t (answerAfter c (refused n s))
   refused-first n s w e f =
@@ -122,7 +122,7 @@ module _ (c : Call) (text : List ℕ) (t : Tables) where
       }
 
   -- The earlier text is refused behind them.
-  pub refused-text :
+  refused-text :
       (n s : ℕ) → verdict c t ≡ given tt → textVerdict text ≡ refused n s
       → PlanAfterPromise c text t t (answerAfter c (refused n s))
   refused-text n s e f =
@@ -168,14 +168,7 @@ module _ (c : Call) (text : List ℕ) (t : Tables) where
             ∙ ap (λ (r : Plan). markFor (onDisk (layoutOf (r .copies)) d) (copyAt (marked (layoutOf (p .copies)) (layoutIn c)) d i .film)) (sym there)) less;
       }
 
-  -- So an answer and tables that are planning's and the marked plan's keep the promise.
-  pub marked-promise :
-      (p : Plan) {exit : Tables} {answer : Numbers PlanSums} → verdict c t ≡ given tt → textVerdict text ≡ given p
-      → answer ≡ answerFor c (given tt) → exit ≡ holdingAfter c p t → PlanAfterPromise c text t exit answer
-  marked-promise p {exit} {answer} e f numbers tables =
-      subst (λ (a : Numbers PlanSums). PlanAfterPromise c text t exit a) (sym numbers)
-      (subst (λ (x : Tables). PlanAfterPromise c text t x (answerFor c (given tt))) (sym tables) (planned-after p e f))
-
+  -- What comes first where both may refuse.
   by-verdicts : (v : Verdict (Unit {0})) (w : Verdict Plan) → verdict c t ≡ v → textVerdict text ≡ w → PlanAfterPromise c text t (tablesGivenAfter c t (followedBy v w)) (answerAfter c (followedBy v w))
   by-verdicts (refused n s) w e f = refused-first n s w e f
   by-verdicts (given u) (refused n s) e f = refused-text n s e f
@@ -192,3 +185,37 @@ module _ (c : Call) (text : List ℕ) (t : Tables) where
   after-promise {exit} {answer} numbers tables =
       subst (λ (a : Numbers PlanSums). PlanAfterPromise c text t exit a) (sym numbers)
       (subst (λ (x : Tables). PlanAfterPromise c text t x (planningAfter c text t)) (sym tables) by-definition)
+
+  -- Where the text is refused, planning behind which its refusal stands keeps the promise.
+  pub refused-behind :
+      (n s : ℕ) {exit : Tables} {answer : Numbers PlanSums} → textVerdict text ≡ refused n s → answer ≡ answerFor c (followedBy (verdict c t) (refused n s))
+      → exit ≡ tablesFor c t (followedBy (verdict c t) (refused n s)) → PlanAfterPromise c text t exit answer
+  unfolding planningAfter tablesAfterEarlier
+  refused-behind n s f numbers tables =
+      after-promise (numbers ∙ same-numbers (verdict c t) ∙ ap (λ (w : Verdict Plan). answerAfter c (followedBy (verdict c t) w)) (sym f))
+      (tables ∙ same-tables (verdict c t) ∙ ap (λ (w : Verdict Plan). tablesGivenAfter c t (followedBy (verdict c t) w)) (sym f))
+    where
+      same-numbers : (v : Verdict (Unit {0})) → answerFor c (followedBy v (refused n s)) ≡ answerAfter c (followedBy v (refused n s))
+      same-numbers (given u) = refl
+      same-numbers (refused m r) = refl
+
+      same-tables : (v : Verdict (Unit {0})) → tablesFor c t (followedBy v (refused n s)) ≡ tablesGivenAfter c t (followedBy v (refused n s))
+      same-tables (given u) = refl
+      same-tables (refused m r) = refl
+
+  -- Where it is the text of a plan, planning and the marks keep it.
+  pub marked-promise :
+      (p : Plan) {exit : Tables} {answer : Numbers PlanSums} → textVerdict text ≡ given p → answer ≡ answerFor c (verdict c t)
+      → exit ≡ afterwards t (λ u. holdingAfter c p t) (verdict c t) → PlanAfterPromise c text t exit answer
+  unfolding planningAfter tablesAfterEarlier
+  marked-promise p f numbers tables =
+      after-promise (numbers ∙ same-numbers (verdict c t) ∙ ap (λ (w : Verdict Plan). answerAfter c (followedBy (verdict c t) w)) (sym f))
+      (tables ∙ same-tables (verdict c t) ∙ ap (λ (w : Verdict Plan). tablesGivenAfter c t (followedBy (verdict c t) w)) (sym f))
+    where
+      same-numbers : (v : Verdict (Unit {0})) → answerFor c v ≡ answerAfter c (followedBy v (given p))
+      same-numbers (given u) = refl
+      same-numbers (refused m r) = refl
+
+      same-tables : (v : Verdict (Unit {0})) → afterwards t (λ (u : Unit {0}). holdingAfter c p t) v ≡ tablesGivenAfter c t (followedBy v (given p))
+      same-tables (given u) = refl
+      same-tables (refused m r) = refl

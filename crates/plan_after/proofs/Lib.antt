@@ -5,3 +5,4 @@ pub mod AfterPromise
 pub mod Steps
 pub mod LongRacks
 pub mod AfterExamplesHold
+pub mod PlanAnswers

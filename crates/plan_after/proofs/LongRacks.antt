@@ -3,14 +3,14 @@ use mathlib.Core.Path.{_≡_, sym, ap, _∙_}
 use mathlib.Core.List.{List}
 use Prim.Native.Nat.{ℕ}
 use lib.ListN.{take}
-use Rattle.refusal.specs.Verdict.{Verdict, Numbers}
+use Rattle.refusal.specs.Verdict.{Verdict, followedBy, Numbers}
 use Rattle.placement.specs.Rack.{Disk}
 use Rattle.placement.specs.Tables.{Tables}
 use Rattle.placement.specs.Plan.{Plan}
 use Rattle.placement.specs.Planning.{Call, call, PlanSums}
 use Rattle.placement.proofs.LongRacks.{long-refused, by-cut}
 use Rattle.plan_text.specs.ReadCall.{textVerdict}
-use Rattle.plan_after.specs.After.{followedBy, verdictAfter, answerAfter, tablesGivenAfter, planningAfter, tablesAfterEarlier}
+use Rattle.plan_after.specs.After.{verdictAfter, answerAfter, tablesGivenAfter, planningAfter, tablesAfterEarlier}
 use Rattle.plan_after.specs.AfterPromise.{PlanAfterPromise}
 use Rattle.plan_after.proofs.AfterPromise.{after-promise}
 

@@ -7,9 +7,10 @@ use native.Mathlib.Omega.{arith}
 use borrow.Author.Tests.{ne-eqb}
 use lib.Dec.{eqb}
 use lib.ListN.{length, take, drop}
-use Rattle.refusal.specs.Verdict.{Verdict, given, refused, Numbers}
+use Rattle.refusal.specs.Verdict.{Verdict, given, refused, Numbers, afterwards}
 use Rattle.refusal.specs.Numbers.{numberOf, secondOf}
 use Rattle.refusal.specs.declared.Refusal.{Refusal}
+use Rattle.refusal.proofs.Verdicts.{Numbered}
 use Rattle.refusal.proofs.Refusals.{number-some}
 use Rattle.placement.specs.Items.{Item, occurrences}
 use Rattle.placement.specs.Copies.{Copy, layoutOf}
@@ -17,7 +18,7 @@ use Rattle.placement.specs.Rack.{Disk, mostDisks}
 use Rattle.placement.specs.Tables.{Tables, tables, ownTables, places, written}
 use Rattle.placement.specs.Plan.{Plan, diskAccepted, disksAccepted, wellFormed}
 use Rattle.placement.specs.Held.{markedFrom, planHeld}
-use Rattle.placement.specs.Planning.{Call, PlanSums, layoutIn, planAfter, holdingFor, holdingCall, verdict, answerFor}
+use Rattle.placement.specs.Planning.{Call, PlanSums, layoutIn, planAfter, holdingFor, holdingCall, verdict, answerFor, tablesFor}
 use Rattle.placement.specs.PlanPromise.{PlanPromise}
 use Rattle.placement.specs.WellFormed.{Each, Entry, CallWellFormed}
 use Rattle.placement.proofs.Conjunctions.{both-true, false-true}
@@ -26,6 +27,7 @@ use Rattle.placement.proofs.Formed.{disk-entries, plan-rack, plan-disks}
 use Rattle.placement.proofs.MarkedCopies.{marked-none}
 use Rattle.placement.proofs.ReadBack.{places-length}
 use Rattle.placement.proofs.Calls.{call-wellFormed}
+use Rattle.placement.proofs.PlanPromise.{verdict-numbered}
 use Rattle.plan_text.specs.Held.{unusedZeroFrom}
 use Rattle.plan_text.specs.ReadCall.{Told, toldNothing, answerTo, textVerdict, judging}
 use Rattle.plan_text.proofs.OwnTables.{own-reading, own-rack, own-held, own-wellFormed}
@@ -52,22 +54,58 @@ module _ (c : Call) (t : Tables) (e : verdict c t ≡ given tt) (earlier : List 
       ∙ ap (λ (n : ℕ). places (c .rack) (halves c t formed earlier) ++ drop n (t .copies))
       (places-length (c .rack) (layoutIn c) (layout-accepted c t formed earlier) ∙ sym (wide c t formed earlier))
 
-  -- Planning keeps its promise, and marking leaves the marked plan.
-  pub marked-plan :
-      {exit : Tables} {answer : Numbers PlanSums} {copies : List ℕ} → PlanPromise c t exit answer
-      → copies ≡ written (markedPlaces (c .rack) (exit .copies) earlier) (exit .copies)
-      → (answer ≡ answerFor c (given tt)) × (tables copies (exit .counts) (exit .left) ≡ holdingFor c (planAfter earlier c) t)
-  marked-plan {exit} {answer} {copies} promise marks = (promise .numbers ∙ planning-is c t (given tt) e, after)
-    where
-      same : exit ≡ holdingCall c t
-      same = promise .tables ∙ tables-are c t (given tt) e
+  -- Marking the tables of the plan leaves those of the marked plan.
+  tables-marked :
+      {exit : Tables} {copies : List ℕ} → exit ≡ holdingCall c t → copies ≡ written (markedPlaces (c .rack) (exit .copies) earlier) (exit .copies)
+      → tables copies (exit .counts) (exit .left) ≡ holdingFor c (planAfter earlier c) t
+  tables-marked {exit} {copies} same marks =
+      ap₂ (λ (a : List ℕ) (x : Tables). tables a (x .counts) (x .left))
+      (marks ∙ ap (λ (x : Tables). written (markedPlaces (c .rack) (x .copies) earlier) (x .copies)) same ∙ copies-marked) same
+      ∙ ap (λ (l : List ℕ). tables (written (places (c .rack) (halves c t formed earlier)) (t .copies)) (written l (t .counts)) (holdingCall c t .left))
+      (sym (lengths-same c t formed earlier))
 
-      after : tables copies (exit .counts) (exit .left) ≡ holdingFor c (planAfter earlier c) t
-      after =
-          ap₂ (λ (a : List ℕ) (x : Tables). tables a (x .counts) (x .left))
-          (marks ∙ ap (λ (x : Tables). written (markedPlaces (c .rack) (x .copies) earlier) (x .copies)) same ∙ copies-marked) same
-          ∙ ap (λ (l : List ℕ). tables (written (places (c .rack) (halves c t formed earlier)) (t .copies)) (written l (t .counts)) (holdingCall c t .left))
-          (sym (lengths-same c t formed earlier))
+-- Planning keeps its promise: it refuses, or marking leaves the marked plan.
+module _ (c : Call) (t : Tables) {exit : Tables} {answer : Numbers PlanSums} (promise : PlanPromise c t exit answer) where
+  numbers-are : (v : Verdict (Unit {0})) → verdict c t ≡ v → answer ≡ answerFor c v
+  numbers-are v e = promise .numbers ∙ planning-is c t v e
+
+  tables-by : (v : Verdict (Unit {0})) → verdict c t ≡ v → exit ≡ tablesFor c t v
+  tables-by v e = promise .tables ∙ tables-are c t v e
+
+  pub planned-given : answer .refusal ≡ 0 → verdict c t ≡ given tt
+  planned-given none = go (verdict c t) refl
+    where
+      go : (v : Verdict (Unit {0})) → verdict c t ≡ v → v ≡ given tt
+      go (given u) e = refl
+      go (refused n s) e =
+          let some : 1 ≤ n = subst Numbered e (verdict-numbered c t) in
+          let same : answer .refusal ≡ n = ap (λ (a : Numbers PlanSums). a .refusal) (numbers-are (refused n s) e) in
+          absurd (omega arith)
+
+  -- Tables that were not marked are those of a refusal.
+  pub refused-plan :
+      (earlier : List (List Item)) → 1 ≤ answer .refusal
+      → (answer ≡ answerFor c (verdict c t)) × (exit ≡ afterwards t (λ u. holdingFor c (planAfter earlier c) t) (verdict c t))
+  refused-plan earlier some = (numbers-are (verdict c t) refl, go (verdict c t) refl)
+    where
+      go : (v : Verdict (Unit {0})) → verdict c t ≡ v → exit ≡ afterwards t (λ (u : Unit {0}). holdingFor c (planAfter earlier c) t) v
+      go (given u) e =
+          let none : answer .refusal ≡ 0 = ap (λ (a : Numbers PlanSums). a .refusal) (numbers-are (given u) e) in
+          absurd (omega (arith, some, none))
+      go (refused n s) e = tables-by (refused n s) e
+
+  -- Tables that were are those of the marked plan.
+  pub marked-plan :
+      (earlier : List (List Item)) → Each NoneUnused earlier → answer .refusal ≡ 0
+      → {copies : List ℕ} → copies ≡ written (markedPlaces (c .rack) (exit .copies) earlier) (exit .copies)
+      → (answer ≡ answerFor c (verdict c t))
+      × (tables copies (exit .counts) (exit .left) ≡ afterwards t (λ u. holdingFor c (planAfter earlier c) t) (verdict c t))
+  marked-plan earlier films none {copies} marks =
+      let e = planned-given none in (
+        numbers-are (verdict c t) refl,
+        tables-marked c t e earlier films (tables-by (given tt) e) marks
+            ∙ ap (λ (v : Verdict (Unit {0})). afterwards t (λ (u : Unit {0}). holdingFor c (planAfter earlier c) t) v) (sym e),
+      )
 
 -- The copies of accepted disks have no film 0.
 entries-used : (most : ℕ) (xs : List Item) → Each (Entry most) xs → NoneUnused xs

@@ -2,18 +2,13 @@
 use Prim.Native.Nat.{ℕ}
 use mathlib.Core.List.{List, map, _++_}
 use lib.ListN.{take, drop}
-use Rattle.refusal.specs.Verdict.{Verdict, given, refused, Numbers, answered, afterwards}
+use Rattle.refusal.specs.Verdict.{Verdict, followedBy, Numbers, answered, afterwards}
 use Rattle.placement.specs.Copies.{unmarked, markedWith, layoutOf}
 use Rattle.placement.specs.Rack.{Disk, allSlots}
 use Rattle.placement.specs.Tables.{Tables, tables, copyEntry, copyIn}
 use Rattle.placement.specs.Plan.{Plan}
 use Rattle.placement.specs.Planning.{Call, PlanSums, sums, sumsIn, planAfter, holdingFor, verdict}
 use Rattle.plan_text.specs.ReadCall.{textVerdict}
-
--- A verdict with no value, and where it is no refusal another one.
-abbrev pub followedBy : {A : Type 0} → Verdict (Unit {0}) → Verdict A → Verdict A
-followedBy (given u) following = following
-followedBy (refused number second) following = refused number second
 
 -- "The earlier text's 8 and 9 come after planning's refusals"; the earlier plan where none applies.
 abbrev pub verdictAfter : Call → (earlier : List ℕ) → Tables → Verdict Plan

@@ -3,22 +3,21 @@ mod mark; // mark.rt: marks in the copy table
 
 use mark::mark_disks;
 use planner::Answer;
-use planner::judge_call;
 use planner::plan;
+use planner::plan_behind;
 use reader::ReadAnswer;
 use refusal::Judgement;
 ghost use mathlib.Core.Path.{_≡_};
 ghost use lib.ListN.{length};
-ghost use Rattle.refusal.specs.Verdict.{given};
 ghost use Rattle.placement.specs.Rack.{mostDisks};
 ghost use Rattle.placement.specs.Packed.{disksIn};
 ghost use Rattle.placement.specs.Tables.{tables, ownTables};
-ghost use Rattle.placement.specs.Planning.{call, verdict};
+ghost use Rattle.placement.specs.Planning.{call};
 ghost use Rattle.planner.specs.Answers.{planNumbers};
 ghost use Rattle.plan_after.specs.AfterPromise.{PlanAfterPromise};
 ghost use Rattle.plan_after.specs.Held.{HeldBefore, MarkedPlan};
 
-// The plan of a call that is not refused, marked by what the disks of an earlier plan held.
+// The plan of a call, marked by what the disks of an earlier plan held. A refusal is planning's own, and marks nothing.
 fn plan_marked(
     rack: &[u64],
     list: &[u8],
@@ -29,7 +28,6 @@ fn plan_marked(
     heldcopies: &[u64],
     heldcounts: &[u32],
 ) -> Answer
-    requires { ⌜ verdict (call (disksIn (now rack)) (now list)) (tables (now copies) (now counts) (now left)) ≡ given tt ⌝ }
     requires { ⌜ HeldBefore (disksIn (now heldrack)) (now heldcopies) (now heldcounts) ⌝ }
     ensures { λ r. ⌜ MarkedPlan (call (disksIn (now (rack .entry))) (now (list .entry)))
         (disksIn (now (heldrack .entry))) (now (heldcopies .entry)) (now (heldcounts .entry))
@@ -37,11 +35,19 @@ fn plan_marked(
         (tables (now (copies .exit)) (now (counts .exit)) (now (left .exit))) (planNumbers r) ⌝ }
 {
     let answer = plan(rack, list, copies, counts, left);
+    let Answer::Planned {
+        served: _,
+        unserved: _,
+        left: _,
+    } = answer
+    else {
+        return answer;
+    };
     mark_disks(rack, copies, heldrack, heldcopies, heldcounts);
     answer
 }
 
-// The same after an earlier text, which is read into 64 packed disks and tables of zeros.
+// The same after an earlier text, which is read into 64 packed disks and tables of zeros. Its refusal stands behind planning's.
 fn plan_with(
     rack: &[u64],
     list: &[u8],
@@ -54,7 +60,6 @@ fn plan_with(
     heldcounts: &mut [u32],
     heldleft: &mut [u64],
 ) -> Answer
-    requires { ⌜ verdict (call (disksIn (now rack)) (now list)) (tables (now copies) (now counts) (now left)) ≡ given tt ⌝ }
     requires { ⌜ (length (now heldrack) ≡ mostDisks) × (tables (now heldcopies) (now heldcounts) (now heldleft) ≡ ownTables) ⌝ }
     ensures { λ r. ⌜ PlanAfterPromise
         (call (disksIn (now (rack .entry))) (now (list .entry))) (now (earlier .entry))
@@ -64,7 +69,14 @@ fn plan_with(
 {
     let read = reader::read(earlier, heldrack, heldcopies, heldcounts, heldleft);
     match read {
-        ReadAnswer::Refused(refusal) => Answer::Refused(refusal),
+        ReadAnswer::Refused(refusal) => plan_behind(
+            rack,
+            list,
+            copies,
+            counts,
+            left,
+            Judgement::Refused(refusal),
+        ),
         ReadAnswer::Plan(held) => plan_marked(
             rack,
             list,
@@ -94,10 +106,6 @@ pub fn plan_after(
         (tables (now (copies .exit)) (now (counts .exit)) (now (left .exit)))
         (planNumbers r) ⌝ }
 {
-    let judged = judge_call(rack, list, copies.len(), counts.len(), left.len());
-    if let Judgement::Refused(refusal) = judged {
-        return Answer::Refused(refusal);
-    }
     let mut heldrack = [0u64; 64];
     let mut heldcopies = [0u64; 2048];
     let mut heldcounts = [0u32; 64];

@@ -1,6 +1,6 @@
 -- The answer of planning and the verdict on the call: a refusal and a plan keep planning's promise.
 use mathlib.Core.Path.{_≡_, refl, sym, ap, _∙_}
-use Rattle.refusal.specs.Verdict.{Verdict, given, Numbers}
+use Rattle.refusal.specs.Verdict.{Verdict, given, followedBy, Numbers}
 use Rattle.refusal.specs.Numbers.{refusalOf, judged}
 use Rattle.refusal.specs.declared.Refusal.{Refusal}
 use Rattle.refusal.specs.declared.Judgement.{Judgement}
@@ -12,6 +12,7 @@ use Rattle.placement.proofs.PlanPromise.{plan-promise}
 use Rattle.planner.specs.declared.answer.Answer.{Answer}
 use Rattle.planner.specs.declared.answer.Answer.the-variants.{Refused}
 use Rattle.planner.specs.Answers.{planNumbers}
+use Rattle.planner.specs.Behind.{BehindPromise}
 
 module _ (c : Call) (t : Tables) where
   -- What the verdict gives is what planning answers and leaves.
@@ -36,3 +37,28 @@ module _ (c : Call) (t : Tables) where
       → PlanPromise c t exit (planNumbers a)
   planned-promise a exit e numbers tables =
       plan-promise c t exit (planNumbers a) (numbers-by (given tt) (planNumbers a) (sym e) numbers) (tables-by (given tt) exit (sym e) tables)
+
+  -- What is refused behind planning's judgement, or planned, keeps the promise of planning behind it.
+  module _ (other : Verdict (Unit {0})) where
+    abbrev last : Verdict (Unit {0}) → Verdict (Unit {0})
+    last v = followedBy v other
+
+    pub behind-first : (r : Refusal) → refusalOf r ≡ verdict c t → BehindPromise c other t t (planNumbers (Refused r))
+    behind-first r e = record {
+      numbers = ap (λ (v : Verdict (Unit {0})). answerFor c (last v)) e;
+      tables = ap (λ (v : Verdict (Unit {0})). tablesFor c t (last v)) e;
+    }
+
+    pub behind-second : (r : Refusal) → verdict c t ≡ given tt → other ≡ refusalOf r → BehindPromise c other t t (planNumbers (Refused r))
+    behind-second r e is = record {
+      numbers = ap (answerFor c) (sym is) ∙ ap (λ (v : Verdict (Unit {0})). answerFor c (last v)) (sym e);
+      tables = ap (tablesFor c t) (sym is) ∙ ap (λ (v : Verdict (Unit {0})). tablesFor c t (last v)) (sym e);
+    }
+
+    pub behind-planned :
+        {exit : Tables} {answer : Numbers PlanSums} → verdict c t ≡ given tt → other ≡ given tt → answer ≡ answerFor c (given tt) → exit ≡ holdingCall c t
+        → BehindPromise c other t exit answer
+    behind-planned e is numbers tables = record {
+      numbers = numbers ∙ ap (answerFor c) (sym is) ∙ ap (λ (v : Verdict (Unit {0})). answerFor c (last v)) (sym e);
+      tables = tables ∙ ap (tablesFor c t) (sym is) ∙ ap (λ (v : Verdict (Unit {0})). tablesFor c t (last v)) (sym e);
+    }

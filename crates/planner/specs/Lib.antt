@@ -7,3 +7,4 @@ pub mod Verdicts
 pub mod Plannable
 pub mod Shelf
 pub mod Order
+pub mod Behind

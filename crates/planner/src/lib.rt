@@ -16,12 +16,13 @@ pub use answer::Answer;
 use fulfil::fill_tables;
 use judge::judge;
 use refusal::Judgement;
+ghost use Rattle.refusal.specs.Numbers.{judged};
 ghost use Rattle.placement.specs.Packed.{disksIn};
 ghost use Rattle.placement.specs.Tables.{tables};
 ghost use Rattle.placement.specs.Planning.{call};
 ghost use Rattle.placement.specs.PlanPromise.{PlanPromise};
 ghost use Rattle.planner.specs.Answers.{planNumbers};
-ghost use Rattle.planner.specs.Verdicts.{Judges};
+ghost use Rattle.planner.specs.Behind.{BehindPromise};
 
 // Plans for a rack of disks, one number each, from the bytes of a demand list. A plan goes into the lent tables: each disk's copies from its first place on,
 // the number of copies of each disk, and what is left. A refusal changes none of them.
@@ -45,9 +46,28 @@ pub fn plan(
     fill_tables(rack, list, copies, counts, left)
 }
 
-// The first refusal of planning that applies, for tables of these lengths: other operations plan behind it.
-pub fn judge_call(rack: &[u64], list: &[u8], copies: usize, counts: usize, left: usize) -> Judgement
-    ensures { λ r. ⌜ Judges (call (disksIn (now (rack .entry))) (now (list .entry))) copies counts left r ⌝ }
+// Plans as `plan` does, unless another judgement, which stands behind planning's refusals, is a refusal.
+pub fn plan_behind(
+    rack: &[u64],
+    list: &[u8],
+    copies: &mut [u64],
+    counts: &mut [u32],
+    left: &mut [u64],
+    behind: Judgement,
+) -> Answer
+    ensures { λ r. ⌜ BehindPromise
+        (call (disksIn (now (rack .entry))) (now (list .entry)))
+        (judged behind)
+        (tables (now (copies .entry)) (now (counts .entry)) (now (left .entry)))
+        (tables (now (copies .exit)) (now (counts .exit)) (now (left .exit)))
+        (planNumbers r) ⌝ }
 {
-    judge(rack, list, copies, counts, left)
+    let judged = judge(rack, list, copies.len(), counts.len(), left.len());
+    if let Judgement::Refused(refusal) = judged {
+        return Answer::Refused(refusal);
+    }
+    if let Judgement::Refused(refusal) = behind {
+        return Answer::Refused(refusal);
+    }
+    fill_tables(rack, list, copies, counts, left)
 }

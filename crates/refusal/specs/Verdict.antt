@@ -11,6 +11,11 @@ pub data Verdict (A : Type 0) : Type 0 where
 abbrev pub unless : {A : Type 0} → Bool → ℕ → ℕ → Verdict A → Verdict A
 unless test number second following = cond test following (refused number second)
 
+-- A verdict with no value, and where it is no refusal another one.
+abbrev pub followedBy : {A : Type 0} → Verdict (Unit {0}) → Verdict A → Verdict A
+followedBy (given u) following = following
+followedBy (refused number second) following = refused number second
+
 -- The numbers of an answer: the refusal's number and second number, and the values of an answer that is no refusal.
 pub record Numbers (A : Type 0) : Type 0 where
   pub refusal : ℕ

@@ -6,21 +6,22 @@ use Prim.Native.Nat.{ℕ, _≤_}
 use native.Mathlib.Omega.{arith}
 use lib.ListN.{length, take, length-replicate}
 use lib.Seq.{length-take-le}
-use Rattle.refusal.specs.Verdict.{given}
+use Rattle.refusal.specs.Verdict.{given, afterwards}
+use Rattle.refusal.specs.Numbers.{numberOf, secondOf}
 use Rattle.placement.specs.Copies.{Copy, layoutOf}
 use Rattle.placement.specs.Rack.{Disk, mostDisks}
 use Rattle.placement.specs.Packed.{disksIn}
 use Rattle.placement.specs.Tables.{Tables, tables, ownTables}
 use Rattle.placement.specs.Plan.{Plan}
 use Rattle.placement.specs.Held.{markedFrom}
-use Rattle.placement.specs.Planning.{Call, call, planAfter, holdingFor}
+use Rattle.placement.specs.Planning.{Call, call, planAfter, holdingFor, verdict}
 use Rattle.placement.proofs.PackedRacks.{disks-length}
 use Rattle.plan_text.specs.ReadCall.{told, textVerdict}
 use Rattle.reader.specs.Answers.{numbersOf}
 use Rattle.reader.specs.Promise.{ReadPromise}
 use Rattle.reader.proofs.PackedDisks.{take-disks}
 use Rattle.plan_after.specs.Held.{HeldBefore}
-use Rattle.plan_after.proofs.AfterPromise.{refused-text, marked-promise}
+use Rattle.plan_after.proofs.AfterPromise.{refused-behind, marked-promise}
 use Rattle.plan_after.proofs.Steps.{read-refused, read-given, rack-few, rack-read, copies-read, held-before}
 use Rattle.plan_after.proofs.plan_with.Statement.{statement}
 use Rattle.plan_after.proofs.plan_with.Tie as tie
@@ -47,19 +48,19 @@ module _ (c : tie.After-read) where
   after = tables (c .read .last .1 .1 .0) (c .read .last .1 .1 .1 .0) (c .read .last .1 .1 .1 .1 .0)
 
   enough : mostDisks ≤ length (disksIn (start-of c .args .heldrack .now))
-  enough = omega (arith, disks-length (start-of c .args .heldrack .now), start-of c .pre .1 .0)
+  enough = omega (arith, disks-length (start-of c .args .heldrack .now), start-of c .pre .0)
 
   promised : ReadPromise (text-of (start-of c)) (disksIn (start-of c .args .heldrack .now)) ownTables (disksIn rackAfter) after (numbersOf (c .read .result))
   promised =
       subst (λ (t : Tables). ReadPromise (text-of (start-of c)) (disksIn (start-of c .args .heldrack .now)) t (disksIn rackAfter) after (numbersOf (c .read .result)))
-      (start-of c .pre .1 .1) (c .read .ensures)
+      (start-of c .pre .1) (c .read .ensures)
 
   -- The lengths stay.
   copies-wide : length (after .copies) ≡ 2048
-  copies-wide = c .read .kept .1 .1 .0 ∙ ap (λ (t : Tables). length (t .copies)) (start-of c .pre .1 .1) ∙ length-replicate {A = ℕ} 2048 0
+  copies-wide = c .read .kept .1 .1 .0 ∙ ap (λ (t : Tables). length (t .copies)) (start-of c .pre .1) ∙ length-replicate {A = ℕ} 2048 0
 
   counts-wide : length (after .counts) ≡ 64
-  counts-wide = c .read .kept .1 .1 .1 .0 ∙ ap (λ (t : Tables). length (t .counts)) (start-of c .pre .1 .1) ∙ length-replicate {A = ℕ} 64 0
+  counts-wide = c .read .kept .1 .1 .1 .0 ∙ ap (λ (t : Tables). length (t .counts)) (start-of c .pre .1) ∙ length-replicate {A = ℕ} 64 0
 
 -- The place of reading before an arm.
 abbrev read-of : tie.After-slice-known11 → tie.After-read
@@ -67,11 +68,14 @@ read-of c = c .before .before .before .before .before .before .before .before
 
 returns : tie.Need-returns
 returns c =
-    let at-read = read-of (c .before .before .before) in
-    let start = start-of at-read in
-    let r = c .before .read2 .given .0 .0 in
-    refused-text (called start) (text-of start) (lent start) _ _ (start .pre .0)
-    (read-refused (text-of start) _ (enough at-read) (promised at-read) r (ap numbersOf (c .before .read2 .given .1)))
+    let at-behind = c .before .before .before .before .before .before in
+    let at-refusal = at-behind .before .before .before .before .before in
+    let at-reading = read-of (at-refusal .before .before) in
+    let start = start-of at-reading in
+    let r = at-refusal .read2 .given .0 .0 in
+    refused-behind (called start) (text-of start) (lent start) (numberOf r) (secondOf r)
+    (read-refused (text-of start) _ (enough at-reading) (promised at-reading) r (ap numbersOf (at-refusal .read2 .given .1)))
+    (at-behind .plan-behind .ensures .numbers) (at-behind .plan-behind .ensures .tables)
 
 -- The plan that was read, at a place of the other arm.
 module _ (c : tie.After-read3) where
@@ -91,7 +95,7 @@ module _ (c : tie.After-read3) where
         found .2,
         rack-few (text-of (start-of at-read)) _ (enough at-read) (promised at-read) (found .0) (found .1),
         at-read .read .kept .1 .0,
-        start-of at-read .pre .1 .0,
+        start-of at-read .pre .0,
       )
 
   -- The disks lent on are its rack.
@@ -112,11 +116,8 @@ plan-marked-requires c κs =
     let at-plan = c .before .before .before .before .before .before .before .before in
     let at-reading = at-read at-plan in
     let start = start-of at-reading in
-    let p = found at-plan .0 in (
-      start .pre .0,
-      subst (λ (rack : List Disk). HeldBefore rack (after at-reading .copies) (after at-reading .counts)) (sym (rack-is at-plan))
-          (held-before (text-of start) _ (enough at-reading) (promised at-reading) p (found at-plan .1) (copies-wide at-reading) (counts-wide at-reading)),
-    )
+    subst (λ (rack : List Disk). HeldBefore rack (after at-reading .copies) (after at-reading .counts)) (sym (rack-is at-plan))
+    (held-before (text-of start) _ (enough at-reading) (promised at-reading) (found at-plan .0) (found at-plan .1) (copies-wide at-reading) (counts-wide at-reading))
 
 returns-2 : tie.Need-returns-2
 returns-2 c =
@@ -129,8 +130,10 @@ returns-2 c =
     let copies : markedFrom (disksIn (take (at-plan .read3 .given .0 .0 .disks) (rackAfter at-reading))) (after at-reading .copies) (after at-reading .counts) ≡ p .copies =
     ap (λ (rack : List Disk). markedFrom rack (after at-reading .copies) (after at-reading .counts)) (rack-is at-plan)
     ∙ copies-read (text-of start) _ (enough at-reading) (promised at-reading) p (found at-plan .1) in
-    marked-promise (called start) (text-of start) (lent start) p (start .pre .0) (found at-plan .1) (marked .numbers)
-    (marked .tables ∙ ap (λ (l : List (List Copy)). holdingFor (called start) (planAfter (layoutOf l) (called start)) (lent start)) copies)
+    marked-promise (called start) (text-of start) (lent start) p (found at-plan .1) (marked .numbers)
+    (marked .tables
+    ∙ ap (λ (l : List (List Copy)). afterwards (lent start) (λ (u : Unit {0}). holdingFor (called start) (planAfter (layoutOf l) (called start)) (lent start))
+    (verdict (called start) (lent start))) copies)
 
 pub plan-with-spec : {M : Type 1} → statement M
 plan-with-spec =
@@ -138,11 +141,15 @@ plan-with-spec =
     (tie.spec
     (λ c κs. search needs)
     (λ c. search needs)
+    (λ c κs. search needs)
     (λ c. search needs)
     (λ c. search needs)
     slice-reshare-prefix-plan-marked
     slice-aggregate-plan-marked
     plan-marked-requires
+    (λ c. search needs)
+    (λ c. search needs)
+    (λ c. search needs)
     (λ c. search needs)
     (λ c. search needs)
     (λ c. search needs)
