@@ -24,8 +24,8 @@ use Rattle.placement.proofs.MarkedCopies.{layout-halves, halves-length,
 abbrev Small : Item → Type 0
 Small x = x .film < 4294967296
 
-entries-small : (most : ℕ) (xs : List Item) → Each (Entry most) xs → Each Small xs
-entries-small most xs entries = each-map (Entry most) Small xs (λ x h. omega (arith, h .filmMost)) entries
+entries-storable : (most : ℕ) (xs : List Item) → Each (Entry most) xs → Each Small xs
+entries-storable most xs entries = each-map (Entry most) Small xs (λ x h. omega (arith, h .filmMost)) entries
 
 -- The first n entries of a table that has them are n, and they are the entries of their items.
 pub front-length : (n : ℕ) (entries : List ℕ) → n ≤ length entries → length (front n entries) ≡ n
@@ -41,13 +41,13 @@ front-back xs small n rest =
 
 module _ (most : ℕ) (xs : List Item) (entries : Each (Entry most) xs) where
   entries-back : map itemIn (map entryOf xs) ≡ xs
-  entries-back = items-entries xs (entries-small most xs entries)
+  entries-back = items-entries xs (entries-storable most xs entries)
 
   pub written-back : (old : List ℕ) → front (length xs) (written (map entryOf xs) old) ≡ xs
   written-back old = ap (map itemIn) (written-front (map entryOf xs) old (length xs) (length-map xs entryOf)) ∙ entries-back
 
   pub padded-back : (n : ℕ) (rest : List ℕ) → front (length xs) (padded n (map entryOf xs) ++ rest) ≡ xs
-  padded-back n rest = front-back xs (entries-small most xs entries) n rest
+  padded-back n rest = front-back xs (entries-storable most xs entries) n rest
 
 -- Behind a disk's places come those of the next disk.
 pub places-behind :
@@ -57,25 +57,25 @@ places-behind d copies rest fits =
     padded-behind (d .slots) (map entryOf copies) rest (omega (arith, length-map copies entryOf))
 
 -- Each disk has a list of items that fit its slots, with films of 32 bits.
-abbrev pub Fits : List Disk → List (List Item) → Type 0
-Fits [] [] = Unit {0}
-Fits [] (mine ∷ rest) = ⊥
-Fits (d ∷ ds) [] = ⊥
-Fits (d ∷ ds) (mine ∷ rest) = (length mine ≤ d .slots) × Each Small mine × Fits ds rest
+abbrev pub Storable : List Disk → List (List Item) → Type 0
+Storable [] [] = Unit {0}
+Storable [] (mine ∷ rest) = ⊥
+Storable (d ∷ ds) [] = ⊥
+Storable (d ∷ ds) (mine ∷ rest) = (length mine ≤ d .slots) × Each Small mine × Storable ds rest
 
 -- The layout of accepted disks fits,
-accepted-fits : (rack : List Disk) (layout : List (List Item)) → disksAccepted rack layout ≡ true → Fits rack layout
+accepted-fits : (rack : List Disk) (layout : List (List Item)) → disksAccepted rack layout ≡ true → Storable rack layout
 accepted-fits [] [] e = tt
 accepted-fits [] (mine ∷ rest) e = false-true e
 accepted-fits (d ∷ ds) [] e = false-true e
 accepted-fits (d ∷ ds) (mine ∷ rest) e =
     let both = both-true (diskAccepted d mine) (disksAccepted ds rest) e in
-    (disk-count d mine (both .0), entries-small (d .load) mine (disk-entries d mine (both .0)), accepted-fits ds rest (both .1))
+    (disk-count d mine (both .0), entries-storable (d .load) mine (disk-entries d mine (both .0)), accepted-fits ds rest (both .1))
 
 -- and so do the halves of their copies.
 halves-fit :
     (rack : List Disk) (copies : List (List Copy)) → disksAccepted rack (layoutOf copies) ≡ true → allMarksAccepted copies ≡ true
-    → Fits rack (map (map halvesOf) copies)
+    → Storable rack (map (map halvesOf) copies)
 halves-fit [] [] e marks = tt
 halves-fit [] (mine ∷ rest) e marks = false-true e
 halves-fit (d ∷ ds) [] e marks = false-true e
@@ -87,11 +87,11 @@ halves-fit (d ∷ ds) (mine ∷ rest) e marks =
       halves-fit ds rest (both .1) (marked .1),
     )
 
-pub plan-fits : (p : Plan) → wellFormed p ≡ true → Fits (p .rack) (map (map halvesOf) (p .copies))
+pub plan-fits : (p : Plan) → wellFormed p ≡ true → Storable (p .rack) (map (map halvesOf) (p .copies))
 plan-fits p e = halves-fit (p .rack) (p .copies) (plan-disks p e) (plan-marks p e)
 
 -- What fits has as many places as slots.
-pub fits-length : (rack : List Disk) (layout : List (List Item)) → Fits rack layout → length (places rack layout) ≡ allSlots rack
+pub fits-length : (rack : List Disk) (layout : List (List Item)) → Storable rack layout → length (places rack layout) ≡ allSlots rack
 fits-length [] layout fits = refl
 fits-length (d ∷ ds) [] fits = absurd fits
 fits-length (d ∷ ds) (mine ∷ rest) fits =
@@ -108,7 +108,7 @@ places-length rack layout e = fits-length rack layout (accepted-fits rack layout
 
 -- The entries that stand in the written places are the ones that were written.
 fits-read-back :
-    (rack : List Disk) (layout : List (List Item)) (copies counts : List ℕ) → Fits rack layout
+    (rack : List Disk) (layout : List (List Item)) (copies counts : List ℕ) → Storable rack layout
     → copiesFrom rack (places rack layout ++ copies) (map length layout ++ counts) ≡ layout
 fits-read-back [] [] copies counts fits = refl
 fits-read-back [] (mine ∷ rest) copies counts fits = absurd fits

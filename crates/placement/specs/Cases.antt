@@ -1,5 +1,5 @@
 -- Cases A to I of document 01, planning's edges, shelf copies, unequal disks and the refusals, as one table: what is asked, and what the answer and the lent tables then are.
-use Prim.Native.Nat.{ℕ, _+_, _*_, _/_, _%_}
+use Prim.Native.Nat.{ℕ, _+_, _/_, _%_}
 use mathlib.Core.List.{List, [], _∷_, _++_, map}
 use lib.ListN.{length, replicate}
 use Rattle.refusal.specs.Verdict.{Numbers}
@@ -23,12 +23,13 @@ pub record Row : Type 0 where
 abbrev pub bytes32 : ℕ → List ℕ
 bytes32 n = n % 256 ∷ n / 256 % 256 ∷ n / 65536 % 256 ∷ n / 16777216 % 256 ∷ []
 
-abbrev bytesOf : List Item → List ℕ
+-- Records as bytes.
+abbrev pub bytesOf : List Item → List ℕ
 bytesOf [] = []
 bytesOf (x ∷ xs) = (bytes32 (x .film) ++ bytes32 (x .amount)) ++ bytesOf xs
 
 -- Tables that hold 77 everywhere.
-abbrev sevens : (copies counts left : ℕ) → Tables
+abbrev pub sevens : (copies counts left : ℕ) → Tables
 sevens copies counts left = tables (replicate copies 77) (replicate counts 77) (replicate left 77)
 
 -- A row with one place more in each table than planning needs.
@@ -67,7 +68,7 @@ abbrev pub expectedOf : Row → Outcome
 expectedOf r = expectation (r .lent) (r .expected)
 
 -- An unused place.
-abbrev none : Item
+abbrev pub none : Item
 none = 0 ∶ 0
 
 abbrev pub caseA : Row

@@ -8,15 +8,14 @@ use Rattle.placement.specs.Items.{Item, item}
 use Rattle.placement.specs.Copies.{Copy, halvesOf, copyOf}
 use Rattle.placement.specs.Rack.{Disk, allSlots, mostDisks, mostSlots, mostRecords}
 
--- An entry of film and viewers, or film and amount, is one number of 64 bits: the film in the low 32 bits, viewers or amount in the
--- high 32 bits.
+-- An entry is one number of 64 bits in two halves. In the left table the low half is the film and the high half the amount.
 abbrev pub entryOf : Item → ℕ
 entryOf x = x .amount * 4294967296 + x .film
 
 abbrev pub itemIn : ℕ → Item
 itemIn entry = item (entry % 4294967296) (entry / 4294967296)
 
--- In the copy table "the low 16 bits are the film, the next 16 the mark, the high 32 the viewers".
+-- In the copy table the low half has the film in its low 16 bits and the mark in the next 16; the high half is the viewers.
 abbrev pub copyEntry : Copy → ℕ
 copyEntry c = entryOf (halvesOf c)
 

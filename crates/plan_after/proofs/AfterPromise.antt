@@ -1,83 +1,28 @@
 -- The promise of planning after an earlier plan follows from its definition.
 use mathlib.Core.Path.{_≡_, refl, sym, ap, ap₂, subst, _∙_}
-use mathlib.Core.Bool.{true}
-use mathlib.Core.List.{List, [], map, _++_}
+use mathlib.Core.List.{List}
 use Prim.Native.Nat.{ℕ, _≤_, _<_}
 use native.Mathlib.Omega.{arith}
-use lib.ListN.{length, take, drop}
+use lib.ListN.{length}
 use Rattle.refusal.specs.Verdict.{Verdict, given, refused, followedBy, Numbers, afterwards}
 use Rattle.refusal.proofs.Verdicts.{Numbered}
-use Rattle.placement.specs.Items.{Item}
-use Rattle.placement.specs.Copies.{Copy, layoutOf, halvesOf, markFor, marked}
-use Rattle.placement.specs.Rack.{allSlots}
-use Rattle.placement.specs.Tables.{Tables, tables, places, written}
-use Rattle.placement.specs.Plan.{Plan, disksAccepted, wellFormed}
-use Rattle.placement.specs.Held.{copiesHeld}
-use Rattle.placement.specs.Records.{recordCount}
-use Rattle.placement.specs.Planning.{Call, PlanSums, layoutIn, planAfter, planIn, holdingFor, holdingCall, verdict, planning, tablesAfter, answerFor, tablesFor}
-use Rattle.placement.specs.WellFormed.{CallWellFormed}
-use Rattle.placement.proofs.Formed.{plan-disks}
-use Rattle.placement.proofs.MarkedCopies.{marked-layout, marked-none, halves-lengths}
-use Rattle.placement.proofs.Written.{written-front, written-behind}
-use Rattle.placement.proofs.ReadBack.{plan-fits, fits-length, padded-held}
-use Rattle.placement.proofs.Calls.{call-wellFormed, after-wellFormed}
+use Rattle.placement.specs.Copies.{Copy, layoutOf, markFor, marked}
+use Rattle.placement.specs.Tables.{Tables, tables}
+use Rattle.placement.specs.Plan.{Plan}
+use Rattle.placement.specs.Planning.{Call, PlanSums, layoutIn, verdict, planning, tablesAfter, answerFor, tablesFor}
+use Rattle.placement.proofs.Calls.{call-wellFormed}
 use Rattle.placement.proofs.PlanPromise.{verdict-numbered, plan-promise}
 use Rattle.plan_text.specs.ReadCall.{textVerdict}
 use Rattle.plan_text.proofs.Verdicts.{verdict-text, verdict-line, verdict-eight, given-refused}
-use Rattle.plan_after.specs.After.{holdingAfter, answerAfter, tablesGivenAfter, planningAfter, tablesAfterEarlier, unmarkedEntry, withoutMarks}
+use Rattle.plan_after.specs.After.{holdingAfter, answerAfter, tablesGivenAfter, planningAfter, tablesAfterEarlier, withoutMarks}
 use Rattle.plan_after.specs.AfterPromise.{onDisk, copyAt, PlanAfterPromise}
-use Rattle.plan_after.proofs.MarkedTables.{places-unmarked}
+use Rattle.plan_after.proofs.WithoutMarks.{without-marks, copies-held, layout-same}
 use Rattle.plan_after.proofs.MarkedAt.{marked-at}
 
 -- A plan of a verdict.
 abbrev planOr : Plan → Verdict Plan → Plan
 planOr d (given p) = p
 planOr d (refused number second) = d
-
--- A call that is not refused, and what the disks of an earlier plan held.
-module _ (c : Call) (t : Tables) (formed : CallWellFormed c) (earlier : List (List Item)) where
-  abbrev pub halves : List (List Item)
-  halves = map (map halvesOf) (marked earlier (layoutIn c))
-
-  -- The plan without marks is accepted, and the marked one well formed.
-  pub layout-accepted : disksAccepted (c .rack) (layoutIn c) ≡ true
-  layout-accepted = ap (disksAccepted (c .rack)) (sym (marked-layout [] (layoutIn c))) ∙ plan-disks (planIn c) (formed .plan)
-
-  after-formed : wellFormed (planAfter earlier c) ≡ true
-  after-formed = after-wellFormed c earlier formed
-
-  -- Its places are as many as all slots.
-  pub wide : length (places (c .rack) halves) ≡ allSlots (c .rack)
-  wide = fits-length (c .rack) halves (plan-fits (planAfter earlier c) after-formed)
-
-  -- Without marks its tables are those of planning without an earlier text.
-  copies-same :
-      map unmarkedEntry (take (allSlots (c .rack)) (written (places (c .rack) halves) (t .copies))) ++ drop (allSlots (c .rack)) (written (places (c .rack) halves) (t .copies))
-      ≡ written (places (c .rack) (map (map halvesOf) (planIn c .copies))) (t .copies)
-  copies-same =
-      ap₂ (λ (a b : List ℕ). map unmarkedEntry a ++ b) (written-front (places (c .rack) halves) (t .copies) (allSlots (c .rack)) wide)
-      (written-behind (places (c .rack) halves) (t .copies) (allSlots (c .rack)) wide)
-      ∙ ap₂ (λ (a : List ℕ) (n : ℕ). a ++ drop n (t .copies)) (places-unmarked (c .rack) (layoutIn c) earlier layout-accepted) (sym bare)
-      ∙ ap (λ (l : List (List Item)). written (places (c .rack) l) (t .copies)) (sym (marked-none (layoutIn c)))
-    where
-      bare : length (places (c .rack) (layoutIn c)) ≡ allSlots (c .rack)
-      bare =
-          ap (λ (l : List (List Item)). length (places (c .rack) l)) (sym (marked-none (layoutIn c)))
-          ∙ fits-length (c .rack) (map (map halvesOf) (planIn c .copies)) (plan-fits (planIn c) (formed .plan))
-
-  pub lengths-same : map length halves ≡ map length (map (map halvesOf) (planIn c .copies))
-  lengths-same =
-      halves-lengths (marked earlier (layoutIn c))
-      ∙ ap (map length) (marked-layout earlier (layoutIn c) ∙ sym (marked-layout [] (layoutIn c)))
-      ∙ sym (halves-lengths (planIn c .copies))
-
-  pub without-marks : withoutMarks (c .rack) (holdingFor c (planAfter earlier c) t) ≡ holdingCall c t
-  without-marks =
-      ap₂ (λ (a b : List ℕ). tables a b (holdingCall c t .left)) copies-same (ap (λ (l : List ℕ). written l (t .counts)) lengths-same)
-
-  -- The copies that they hold are the marked ones.
-  pub copies-held : copiesHeld (c .rack) (holdingFor c (planAfter earlier c) t) ≡ marked earlier (layoutIn c)
-  copies-held = ap (λ (q : Plan). q .copies) (padded-held (planAfter earlier c) after-formed (recordCount (c .list)) t)
 
 -- Planning without an earlier text, by its verdict.
 module _ (c : Call) (t : Tables) where
@@ -118,6 +63,7 @@ module _ (c : Call) (text : List ℕ) (t : Tables) where
         refusedLength = λ h. absurd (omega (arith, some, number, h));
         accepted = λ h. sym same;
         planned = λ h. absurd (omega (arith, some, h));
+        layout = λ h. absurd (omega (arith, some, h));
         marks = λ h. absurd (omega (arith, some, h));
       }
 
@@ -138,6 +84,7 @@ module _ (c : Call) (text : List ℕ) (t : Tables) where
         refusedLength = λ h refuses other. let eight = verdict-eight text n s f other in (eight .0, eight .2);
         accepted = λ a. given-refused (a .plan) n s (sym (verdict-text (a .plan) (a .formed)) ∙ ap textVerdict (a .same) ∙ f);
         planned = λ h. absurd (some h);
+        layout = λ h. absurd (some h);
         marks = λ h. absurd (some h);
       }
 
@@ -160,6 +107,7 @@ module _ (c : Call) (text : List ℕ) (t : Tables) where
         planned = λ h.
             plan-promise c t (withoutMarks (c .rack) (holdingAfter c p t)) (answerAfter c (given p)) (sym same)
             (without-marks c t formed (layoutOf (p .copies)) ∙ sym (tables-are c t (given tt) e));
+        layout = λ h. layout-same c t formed (layoutOf (p .copies));
         marks = λ h q ok is d i less.
             let held = copies-held c t formed (layoutOf (p .copies)) in
             let there : q ≡ p = ap (planOr p) (sym (verdict-text q ok) ∙ ap textVerdict is ∙ f) in

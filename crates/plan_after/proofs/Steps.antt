@@ -36,7 +36,8 @@ use Rattle.reader.specs.Promise.{ReadPromise}
 use Rattle.plan_after.specs.Marking.{markedPlaces}
 use Rattle.plan_after.specs.Held.{NoneUnused, HeldBefore}
 use Rattle.plan_after.proofs.MarkedTables.{places-marked}
-use Rattle.plan_after.proofs.AfterPromise.{halves, layout-accepted, wide, lengths-same, planning-is, tables-are}
+use Rattle.plan_after.proofs.WithoutMarks.{halves, layout-accepted, wide, lengths-same}
+use Rattle.plan_after.proofs.AfterPromise.{planning-is, tables-are}
 
 -- A call that is not refused, planned and then marked by what was held.
 module _ (c : Call) (t : Tables) (e : verdict c t ≡ given tt) (earlier : List (List Item)) (films : Each NoneUnused earlier) where

@@ -9,7 +9,7 @@ use Rattle.placement.specs.Copies.{Copy, copy}
 use Rattle.placement.specs.Rack.{Disk, disk, rackOf, allSlots}
 use Rattle.placement.specs.Tables.{Tables, tables, entryOf, copyEntry}
 use Rattle.placement.specs.Planning.{Call, call, PlanSums, sums}
-use Rattle.placement.specs.Cases.{bytes32}
+use Rattle.placement.specs.Cases.{bytesOf, sevens, none}
 use Rattle.plan_text.specs.Examples.{textLines}
 use Rattle.plan_after.specs.After.{planningAfter, tablesAfterEarlier}
 
@@ -20,14 +20,6 @@ pub record AfterRow : Type 0 where
   pub lent : Tables
   pub numbers : Numbers PlanSums
   pub after : Tables
-
-abbrev bytesOf : List Item → List ℕ
-bytesOf [] = []
-bytesOf (x ∷ xs) = (bytes32 (x .film) ++ bytes32 (x .amount)) ++ bytesOf xs
-
--- Tables that hold 77 everywhere.
-abbrev sevens : (copies counts left : ℕ) → Tables
-sevens copies counts left = tables (replicate copies 77) (replicate counts 77) (replicate left 77)
 
 -- A row that is planned, with one place more in each table than planning needs: S, U, the number of left films and each table's places.
 abbrev planned :
@@ -40,7 +32,7 @@ planned rack list earlier s u n copies counts left = record {
   after = tables (map copyEntry copies ++ (77 ∷ [])) (counts ++ (77 ∷ [])) (map entryOf left ++ (77 ∷ []));
 }
 
--- A row that is refused, with as many left places as records: the tables stay.
+-- A row that is refused, with places for two disks of two slots and two left films: the tables stay.
 abbrev refusesAfter : List Disk → List ℕ → List ℕ → (number second : ℕ) → AfterRow
 refusesAfter rack bytes earlier number second = record {
   asked = call rack bytes;
@@ -50,10 +42,7 @@ refusesAfter rack bytes earlier number second = record {
   after = sevens 4 2 2;
 }
 
--- An unused place.
-abbrev none : Item
-none = 0 ∶ 0
-
+-- An unused copy place.
 abbrev unused : Copy
 unused = copy 0 0 0
 
@@ -65,8 +54,8 @@ abbrev films : List Item
 films = 1 ∶ 2 ∷ 2 ∶ 3 ∷ 3 ∶ 4 ∷ 4 ∶ 0 ∷ []
 
 -- Their plan: disk 1 (1 2) (2 3), disk 2 (3 4) (4 0). Only the marks differ by the earlier text.
-abbrev after : List String → (a b c d : ℕ) → AfterRow
-after earlier a b c d =
+abbrev marksAre : List String → (a b c d : ℕ) → AfterRow
+marksAre earlier a b c d =
     planned two films earlier 9 0 0 (copy 1 a 2 ∷ copy 2 b 3 ∷ copy 3 c 4 ∷ copy 4 d 0 ∷ []) (2 ∷ 2 ∷ []) (replicate 4 none)
 
 -- A list of one wrong film, and one of one film.
@@ -84,20 +73,22 @@ abbrev accepted : List ℕ
 accepted = textLines ("(rack 1 1 1)" ∷ "(disk 1 (9 1))" ∷ "(left)" ∷ "(served 1 0)" ∷ [])
 
 -- In this order: the same plan, with marks of its own; films on the other disk; films that are left there; copies without viewers, and viewers that differ;
--- fewer disks; more disks of other slots; an empty plan; case A after a plan of one film on disk 2. Then the refusals: planning's before those of the text,
--- the text's own, and none where all is well.
+-- fewer disks; more disks of other slots; an empty plan; an empty list; unequal disks; case F, whose film is held on one of its disks. Then the refusals:
+-- planning's before those of the text, and the text's own.
 abbrev pub afterRows : List AfterRow
 afterRows =
-    after ("(rack 2 2 5)" ∷ "(disk 1 (1 2 held) (2 3))" ∷ "(disk 2 (3 4 held) (4 0))" ∷ "(left)" ∷ "(served 9 0)" ∷ []) 1 1 1 1
-    ∷ after ("(rack 2 2 5)" ∷ "(disk 1 (3 4) (4 0))" ∷ "(disk 2 (1 2 held) (2 3))" ∷ "(left)" ∷ "(served 9 0)" ∷ []) 0 0 0 0
-    ∷ after ("(rack 2 2 5)" ∷ "(disk 1 (2 1))" ∷ "(disk 2)" ∷ "(left (1 1) (3 4) (4 0))" ∷ "(served 1 5)" ∷ []) 0 1 0 0
-    ∷ after ("(rack 2 2 5)" ∷ "(disk 1 (7 5) (1 0))" ∷ "(disk 2 (4 5) (3 0 held))" ∷ "(left)" ∷ "(served 10 0)" ∷ []) 1 0 1 1
-    ∷ after ("(rack 1 4 9)" ∷ "(disk 1 (1 1) (2 1) (3 1) (4 1))" ∷ "(left)" ∷ "(served 4 0)" ∷ []) 1 1 0 0
-    ∷ after ("(mixed (1 2) (4 8) (1 2))" ∷ "(disk 1 (2 2))" ∷ "(disk 2 (4 1) (1 1))" ∷ "(disk 3 (3 1))" ∷ "(left)" ∷ "(served 5 0)" ∷ []) 0 1 0 1
-    ∷ after ("(rack 1 1 1)" ∷ "(disk 1)" ∷ "(left)" ∷ "(served 0 0)" ∷ []) 0 0 0 0
+    marksAre ("(rack 2 2 5)" ∷ "(disk 1 (1 2 held) (2 3))" ∷ "(disk 2 (3 4 held) (4 0))" ∷ "(left)" ∷ "(served 9 0)" ∷ []) 1 1 1 1
+    ∷ marksAre ("(rack 2 2 5)" ∷ "(disk 1 (3 4) (4 0))" ∷ "(disk 2 (1 2 held) (2 3))" ∷ "(left)" ∷ "(served 9 0)" ∷ []) 0 0 0 0
+    ∷ marksAre ("(rack 2 2 5)" ∷ "(disk 1 (2 1))" ∷ "(disk 2)" ∷ "(left (1 1) (3 4) (4 0))" ∷ "(served 1 5)" ∷ []) 0 1 0 0
+    ∷ marksAre ("(rack 2 2 5)" ∷ "(disk 1 (7 5) (1 0))" ∷ "(disk 2 (4 5) (3 0 held))" ∷ "(left)" ∷ "(served 10 0)" ∷ []) 1 0 1 1
+    ∷ marksAre ("(rack 1 4 9)" ∷ "(disk 1 (1 1) (2 1) (3 1) (4 1))" ∷ "(left)" ∷ "(served 4 0)" ∷ []) 1 1 0 0
+    ∷ marksAre ("(mixed (1 2) (4 8) (1 2))" ∷ "(disk 1 (2 2))" ∷ "(disk 2 (4 1) (1 1))" ∷ "(disk 3 (3 1))" ∷ "(left)" ∷ "(served 5 0)" ∷ []) 0 1 0 1
+    ∷ marksAre ("(rack 1 1 1)" ∷ "(disk 1)" ∷ "(left)" ∷ "(served 0 0)" ∷ []) 0 0 0 0
     ∷ planned (rackOf 1 2 5) [] ("(rack 1 1 1)" ∷ "(disk 1 (9 1))" ∷ "(left)" ∷ "(served 1 0)" ∷ []) 0 0 0 (unused ∷ unused ∷ []) (0 ∷ []) []
     ∷ planned (disk 1 3 ∷ disk 2 6 ∷ []) (5 ∶ 8 ∷ 6 ∶ 9 ∷ []) ("(rack 2 1 9)" ∷ "(disk 1 (6 1))" ∷ "(disk 2 (5 1))" ∷ "(left)" ∷ "(served 2 0)" ∷ []) 9 8 1
     (copy 5 0 3 ∷ copy 5 1 5 ∷ copy 6 0 1 ∷ []) (1 ∷ 2 ∷ []) (6 ∶ 8 ∷ none ∷ [])
+    ∷ planned two (9 ∶ 1000000 ∷ []) ("(rack 1 1 1)" ∷ "(disk 1 (9 1))" ∷ "(left)" ∷ "(served 1 0)" ∷ []) 10 999990 1
+    (copy 9 1 5 ∷ unused ∷ copy 9 0 5 ∷ unused ∷ []) (1 ∷ 1 ∷ []) (9 ∶ 999990 ∷ [])
     ∷ refusesAfter two wrongFilm damaged 4 1
     ∷ refusesAfter two (0 ∷ []) [] 2 0
     ∷ refusesAfter [] oneFilm damaged 12 0

@@ -38,6 +38,9 @@ pub record PlanAfterPromise (call : Call) (earlier : List ℕ) (entry exit : Tab
   pub accepted : Accepted earlier → answer ≡ planning call entry
   -- where there is a plan, it is without its marks all that planning without the earlier text promises: the method's, and demand 3
   pub planned : answer .refusal ≡ 0 → PlanPromise call entry (withoutMarks (call .rack) exit) answer
+  -- and its copies, with their marks left out, are the same
+  pub layout :
+      answer .refusal ≡ 0 → layoutOf (copiesHeld (call .rack) exit) ≡ layoutOf (copiesHeld (call .rack) (withoutMarks (call .rack) exit))
   -- each copy is marked where the same disk held the same film in the earlier plan, and nowhere else
   pub marks :
       answer .refusal ≡ 0 → (p : Plan) → wellFormed p ≡ true → textOf p ≡ earlier → (d i : ℕ)

@@ -22,7 +22,7 @@ use Rattle.plan_text.specs.Decimal.{decimal}
 use Rattle.plan_text.specs.Text.{closed, lineFeed, firstLine, leftLine, servedLine, lines, disksThen, textOf}
 use Rattle.plan_text.specs.RefusalLine.{refusalEnd, refusalLine, refusalText}
 use Rattle.plan_text.proofs.Lengths.{length-5}
-use Rattle.plan_text.proofs.Lengths.{none-marked}
+use Rattle.plan_text.proofs.Lengths.{without-marks-none}
 use Rattle.plan_text.proofs.LongestText.{text-length-unmarked}
 use Rattle.plan_output.specs.Output.{printed, printedFor}
 use Rattle.plan_output.specs.OutputPromise.{mostOutput}
@@ -100,7 +100,7 @@ module _ (c : Call) where
     where
       go : (v : Verdict (Unit {0})) → verdict c ownTables ≡ v → Small v → length (printed c v) ≤ mostOutput
       go (given u) e small =
-          text-length-unmarked (planIn c) (call-wellFormed c ownTables e .plan) (none-marked (layoutIn c)) equal
+          text-length-unmarked (planIn c) (call-wellFormed c ownTables e .plan) (without-marks-none (layoutIn c)) equal
       go (refused number second) e small = omega (arith, refusal-short number second (omega arith) (omega arith))
 
   pub printed-some : 1 ≤ length (printedFor c)

@@ -1,6 +1,6 @@
 -- Reading copies with their marks: what is read is the copies' text, and their text is read.
 use mathlib.Core.Path.{_≡_, refl, sym, ap, _∙_, subst}
-use mathlib.Core.List.{List, _∷_, _++_}
+use mathlib.Core.List.{List, [], _∷_, map, _++_}
 use Prim.Native.Nat.{ℕ, zero, suc, _≤_}
 use native.Mathlib.Omega.{arith}
 use borrow.Author.Tests.{le-leb}
@@ -11,7 +11,7 @@ use Rattle.placement.specs.Rack.{mostPlanFilm}
 use Rattle.placement.specs.WellFormed.{Each}
 use Rattle.placement.proofs.Conjunctions.{cond-true}
 use Rattle.plan_text.specs.Ascii.{ascii}
-use Rattle.plan_text.specs.Text.{space, closed, markEnd, copyText}
+use Rattle.plan_text.specs.Text.{space, closed, pairText, pairsText, markEnd, copyText, copiesText}
 use Rattle.plan_text.specs.Parse.{Parse, parsed, unparsed, next, byte, literal, pairStart, markRead, copyEnd, copyRead}
 use Rattle.plan_text.proofs.Pieces.{parsed-value, parsed-rest, next-parsed, orElse-parsed, chosen-parsed, byte-sound, literal-sound}
 use Rattle.plan_text.proofs.Numbers.{Faithful, most}
@@ -80,3 +80,8 @@ copy-complete {cap} f c r small =
     start : (m : ℕ) → pairStart cap (startBefore (unmarked c) (markEnd m ++ r)) ≡ parsed (unmarked c) (markEnd m ++ r)
     start zero = start-complete f (unmarked c) closed r smalls refl
     start (suc m) = start-complete f (unmarked c) space (ascii "held)" ++ r) smalls refl
+
+-- Copies without marks have the text that pairs have: a text of before is the same text.
+pub unmarked-text : (xs : List Item) → copiesText (map (markedWith 0) xs) ≡ pairsText xs
+unmarked-text [] = refl
+unmarked-text (x ∷ xs) = ap (λ (r : List ℕ). space ∷ (pairText x ++ r)) (unmarked-text xs)

@@ -112,13 +112,13 @@ allMarksIn [] = 0
 allMarksIn (copies ∷ rest) = marksIn copies + allMarksIn rest
 
 -- Without an earlier plan none is.
-disk-unmarked : (copies : List Item) → marksIn (markedDisk [] copies) ≡ 0
-disk-unmarked [] = refl
-disk-unmarked (x ∷ xs) = omega (arith, disk-unmarked xs)
+disk-without-marks : (copies : List Item) → marksIn (markedDisk [] copies) ≡ 0
+disk-without-marks [] = refl
+disk-without-marks (x ∷ xs) = omega (arith, disk-without-marks xs)
 
-pub none-marked : (layout : List (List Item)) → allMarksIn (marked [] layout) ≡ 0
-none-marked [] = refl
-none-marked (copies ∷ rest) = omega (arith, disk-unmarked copies, none-marked rest)
+pub without-marks-none : (layout : List (List Item)) → allMarksIn (marked [] layout) ≡ 0
+without-marks-none [] = refl
+without-marks-none (copies ∷ rest) = omega (arith, disk-without-marks copies, without-marks-none rest)
 
 -- The text of c copies with v viewers in sum.
 pub length-copies : (limit : ℕ) → limit ≤ 65535 → (cs : List Copy) → Each (Entry limit) (map unmarked cs)

@@ -16,7 +16,7 @@ use Rattle.placement.specs.Held.{front, planHeld}
 use Rattle.placement.proofs.Conjunctions.{and-holds}
 use Rattle.placement.proofs.Formed.{left-entries, plan-left}
 use Rattle.placement.proofs.Written.{padded-zeros}
-use Rattle.placement.proofs.ReadBack.{Fits, written-back, places-behind, plan-fits, plan-read-back}
+use Rattle.placement.proofs.ReadBack.{Storable, written-back, places-behind, plan-fits, plan-read-back}
 use Rattle.plan_text.specs.Held.{allZero, unusedPlaces, unusedZero, unusedZeroFrom, heldWellFormed}
 use Rattle.plan_text.specs.ReadCall.{holdingRack, holdingPlan}
 
@@ -36,7 +36,7 @@ disk-unused d xs rest fits =
 
 -- So are the unused places of all disks.
 unused-zero :
-    (rack : List Disk) (layout : List (List Item)) (copies counts : List ℕ) → Fits rack layout
+    (rack : List Disk) (layout : List (List Item)) (copies counts : List ℕ) → Storable rack layout
     → unusedZeroFrom rack (places rack layout ++ copies) (map length layout ++ counts) ≡ true
 unused-zero [] [] copies counts fits = refl
 unused-zero [] (xs ∷ layout) copies counts fits = absurd fits

@@ -34,10 +34,10 @@ pub pairs-end : (entries : List ℕ) (i : ℕ) → length entries ≤ i → clos
 pairs-end entries i h = sym (ap (λ (l : List ℕ). pairsText (map itemIn l)) (drop-of-length-le entries h))
 
 -- So for copies.
-pub copies-next :
+pub copy-next :
     (entries : List ℕ) (i : ℕ) → i < length entries
     → copiesText (copiesIn (drop i entries)) ≡ (space ∷ copyText (copyIn (getD entries i 0))) ++ copiesText (copiesIn (drop (i + 1) entries))
-copies-next entries i h = ap (λ (l : List ℕ). copiesText (copiesIn l)) (drop-next entries i h)
+copy-next entries i h = ap (λ (l : List ℕ). copiesText (copiesIn l)) (drop-next entries i h)
 
 pub copies-end : (entries : List ℕ) (i : ℕ) → length entries ≤ i → closed ∷ [] ≡ copiesText (copiesIn (drop i entries))
 copies-end entries i h = sym (ap (λ (l : List ℕ). copiesText (copiesIn l)) (drop-of-length-le entries h))

@@ -5,7 +5,7 @@ use lib.ListN.{length, drop}
 use Rattle.placement.specs.Tables.{copiesIn}
 use Rattle.plan_text.specs.Text.{copiesText}
 use Rattle.writer.proofs.Spaces.{Rest, rest-start, rest-step, put-as}
-use Rattle.writer.proofs.Runs.{copies-next, copies-end}
+use Rattle.writer.proofs.Runs.{copy-next, copies-end}
 use Rattle.writer.proofs.copies.put_copies.Statement.{statement}
 use Rattle.writer.proofs.copies.put_copies.Tie as tie
 
@@ -23,7 +23,7 @@ loop-again c =
     let at-copy = c .before .before in
     let at-turn = at-copy .before .before .before in
     let at-loop = at-turn .before in
-    rest-step (copies-next _ (at-loop .loop .i) (at-turn .loop-test .taken)) (at-loop .loop .inv) (at-copy .put-copy .ensures)
+    rest-step (copy-next _ (at-loop .loop .i) (at-turn .loop-test .taken)) (at-loop .loop .inv) (at-copy .put-copy .ensures)
 
 returns : tie.Need-returns Inv-loop μ-loop
 returns c =
