@@ -18,11 +18,12 @@
  * but all have one ratio of streams to slots. `jugfjord_equal_rack` makes the entries of a rack of equal disks. Planning fills
  * the disks by ascending slots, equal ones by number.
  *
- * Tables: `copies` is the copy table, `left` the left table. An entry of either is one number: the film in its low 16 bits, in
- * the copy table the mark in the 16 bits above it, and the viewers or the amount in its high 32 bits. `counts` has the number of
- * copies of each disk. The disks stand by number, whatever their slots: disk 1 has its copies from place 0 on, and each other
- * disk from the place after the slots of all disks before it. Planning and reading set the unused copy places to 0, and writing
- * asks for that. JUGFJORD_MOST_COPIES, JUGFJORD_MOST_DISKS and JUGFJORD_MOST_LEFT places are always enough.
+ * Tables: `copies` is the copy table, `left` the left table. An entry of either is one number. In the copy table its low 16 bits
+ * are the film, the next 16 the mark and its high 32 the viewers; in the left table its low 32 bits are the film, which is at
+ * most 65,535, and its high 32 the amount. `counts` has the number of copies of each disk. The disks stand by number, whatever
+ * their slots: disk 1 has its copies from place 0 on, and each other disk from the place after the slots of all disks before it.
+ * Planning and reading set the unused copy places to 0, and writing asks for that. JUGFJORD_MOST_COPIES, JUGFJORD_MOST_DISKS and
+ * JUGFJORD_MOST_LEFT places are always enough.
  *
  * A copy with 0 viewers is a shelf copy. Planning takes the films of demand 0 in ascending number and stores each on the
  * lowest disk with a free slot, behind its other copies; with no free slot the film is left with amount 0. So an entry with
@@ -72,7 +73,8 @@ extern "C" {
 #define JUGFJORD_REFUSED_DISKS_OUT_OF_RANGE 12 /* disks not 1 to 64, or of one slots not 1 to 32 or streams not 1 to 65,535 */
 #define JUGFJORD_REFUSED_RATIO_DIFFERS 13      /* the first disk whose ratio of streams to slots is not that of disk 1 */
 
-/* The entry of a film with its viewers or its amount, without a mark. */
+/* The entry of a film with its viewers or its amount, without a mark. The film is at most 65,535: as a copy, 65,544 would be
+ * film 8 with mark 1. */
 static inline uint64_t jugfjord_entry(uint32_t film, uint32_t amount)
 {
     uint64_t high = amount;
@@ -98,10 +100,10 @@ static inline uint32_t jugfjord_entry_amount(uint64_t entry)
     return high & 0xffffffff;
 }
 
-/* The entry of a copy with this mark instead of its own. */
-static inline uint64_t jugfjord_entry_with_mark(uint64_t entry, uint16_t mark)
+/* The entry of a copy with the low 16 bits of this mark instead of its own. */
+static inline uint64_t jugfjord_entry_with_mark(uint64_t entry, uint32_t mark)
 {
-    uint64_t above = mark;
+    uint64_t above = mark & 0xffff;
     return (entry & ~UINT64_C(0xffff0000)) | (above << 16);
 }
 
@@ -142,7 +144,7 @@ struct jugfjord_planned jugfjord_plan(const struct jugfjord_disk *rack, size_t r
  * that plan; its rack may be any other, its viewers and marks do not matter, a copy with 0 viewers was held, a left film was
  * not, and a disk that it lacks held nothing. Without their marks the tables and the answer are those of `jugfjord_plan`.
  * Refusals those of `jugfjord_plan`, then 8 and 9 with the line for the earlier text; an empty text is 9 at line 1. Less than
- * 112 KiB of stack. */
+ * 96 KiB of stack. */
 struct jugfjord_planned jugfjord_plan_after(const struct jugfjord_disk *rack, size_t rack_count,
                                             const uint8_t *list, size_t list_count,
                                             const uint8_t *earlier, size_t earlier_count,

@@ -66,8 +66,8 @@ pub fn plan_behind(
     if let Judgement::Refused(refusal) = judged {
         return Answer::Refused(refusal);
     }
-    if let Judgement::Refused(refusal) = behind {
-        return Answer::Refused(refusal);
+    if let Judgement::Refused(other) = behind {
+        return Answer::Refused(other);
     }
     fill_tables(rack, list, copies, counts, left)
 }

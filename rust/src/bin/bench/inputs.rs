@@ -113,8 +113,8 @@ fn sliding_list() -> Vec<Pair> {
         .collect()
 }
 
-/// The largest plans of equal and of unequal disks, with the length that their texts have by the
-/// limits of documents 01 and 02.
+/// The largest plans of equal and of unequal disks without marks, with the length that their
+/// texts have by the limits of documents 01 and 02.
 pub fn plans() -> [(&'static str, Plan, usize); 2] {
     [
         ("equal disks", Plan::largest(), 43_885),
