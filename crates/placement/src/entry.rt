@@ -29,8 +29,8 @@ pub fn entry_amount(entry: u64) -> u32
     (entry / HALF) as u32
 }
 
-// One more than the largest film in an entry of the copy table.
-const MARK: u32 = 65_536;
+// 2¹⁶: one more than the largest film in an entry of the copy table, and what mark 1 adds to it.
+pub const MARK: u32 = 65_536;
 
 // The film of a copy's entry.
 pub fn copy_film(entry: u64) -> u32

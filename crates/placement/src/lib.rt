@@ -4,6 +4,7 @@ mod mixed; // mixed.rt: a rack of large and small disks, its refusals and its ro
 mod packed; // packed.rt: a disk as one number
 mod rack; // rack.rt: slots, streams and the rack of equal disks, and their ranges
 
+pub use entry::MARK;
 pub use entry::copy_film;
 pub use entry::copy_mark;
 pub use entry::entry_amount;

@@ -3,6 +3,7 @@ use crate::cursor::Cursor;
 use crate::cursor::eat;
 use crate::cursor::eat_all;
 use crate::number::read_number;
+use placement::MARK;
 use placement::MOST_PLAN_FILM;
 use placement::entry_of;
 ghost use mathlib.Core.Path.{_≡_};
@@ -70,7 +71,7 @@ fn end_copy(text: &[u8], start: Pair) -> Pair
     }
     let held = eat_all(text, behind, b" held)");
     Pair {
-        film: film + 65_536,
+        film: film + MARK,
         amount,
         after: held,
     }
