@@ -63,8 +63,8 @@ pub fn plan_behind(
         (planNumbers r) ⌝ }
 {
     let judged = judge(rack, list, copies.len(), counts.len(), left.len());
-    if let Judgement::Refused(refusal) = judged {
-        return Answer::Refused(refusal);
+    if let Judgement::Refused(first) = judged {
+        return Answer::Refused(first);
     }
     if let Judgement::Refused(other) = behind {
         return Answer::Refused(other);
