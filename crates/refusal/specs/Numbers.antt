@@ -2,7 +2,7 @@
 use Prim.Native.Nat.{ℕ}
 use Rattle.refusal.specs.Verdict.{Verdict, given, refused}
 use Rattle.refusal.specs.declared.Refusal.{Refusal}
-use Rattle.refusal.specs.declared.Refusal.the-variants.{RackOutOfRange, ListLength, TooManyRecords, FilmOutOfRange, DemandOutOfRange, FilmRepeated, TablesTooShort, TextTooLong, Line, NotWellFormed, SpaceTooShort, DisksOutOfRange, RatioDiffers}
+use Rattle.refusal.specs.declared.Refusal.the-variants.{RackOutOfRange, ListLength, TooManyRecords, FilmOutOfRange, DemandOutOfRange, FilmRepeated, TablesTooShort, TextTooLong, Line, NotWellFormed, SpaceTooShort, DisksOutOfRange, RatioDiffers, TooManyDisks, FirstLinesDiffer}
 use Rattle.refusal.specs.declared.Judgement.{Judgement}
 use Rattle.refusal.specs.declared.Judgement.the-variants.{Passed, Refused}
 
@@ -20,6 +20,8 @@ numberOf NotWellFormed = 10
 numberOf SpaceTooShort = 11
 numberOf DisksOutOfRange = 12
 numberOf (RatioDiffers disk) = 13
+numberOf TooManyDisks = 14
+numberOf FirstLinesDiffer = 15
 
 -- The position of the record, the line, or the disk; 0 where no second number is named.
 abbrev pub secondOf : Refusal → ℕ
@@ -36,6 +38,8 @@ secondOf NotWellFormed = 0
 secondOf SpaceTooShort = 0
 secondOf DisksOutOfRange = 0
 secondOf (RatioDiffers disk) = disk
+secondOf TooManyDisks = 0
+secondOf FirstLinesDiffer = 0
 
 -- A refusal as a verdict on any call.
 abbrev pub refusalOf : {A : Type 0} → Refusal → Verdict A

@@ -17,6 +17,8 @@ pub enum Refusal {
     SpaceTooShort,
     DisksOutOfRange,
     RatioDiffers(u32),
+    TooManyDisks,
+    FirstLinesDiffer,
 }
 
 // What a judgement comes to: no refusal applies, or the first that does.
@@ -43,6 +45,8 @@ pub fn number(refusal: Refusal) -> u32
         Refusal::SpaceTooShort => 11,
         Refusal::DisksOutOfRange => 12,
         Refusal::RatioDiffers(_) => 13,
+        Refusal::TooManyDisks => 14,
+        Refusal::FirstLinesDiffer => 15,
     }
 }
 
@@ -64,5 +68,7 @@ pub fn second(refusal: Refusal) -> u32
         Refusal::SpaceTooShort => 0,
         Refusal::DisksOutOfRange => 0,
         Refusal::RatioDiffers(disk) => disk,
+        Refusal::TooManyDisks => 0,
+        Refusal::FirstLinesDiffer => 0,
     }
 }
