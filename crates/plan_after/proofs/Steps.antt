@@ -6,33 +6,27 @@ use Prim.Native.Nat.{ℕ, _+_, _≤_}
 use native.Mathlib.Omega.{arith}
 use borrow.Author.Tests.{ne-eqb}
 use lib.Dec.{eqb}
-use lib.ListN.{length, take, drop}
+use lib.ListN.{length, drop}
 use Rattle.refusal.specs.Verdict.{Verdict, given, refused, Numbers, afterwards}
-use Rattle.refusal.specs.Numbers.{numberOf, secondOf}
-use Rattle.refusal.specs.declared.Refusal.{Refusal}
 use Rattle.refusal.proofs.Verdicts.{Numbered}
-use Rattle.refusal.proofs.Refusals.{number-some}
 use Rattle.placement.specs.Items.{Item, occurrences}
 use Rattle.placement.specs.Copies.{Copy, layoutOf}
 use Rattle.placement.specs.Rack.{Disk, mostDisks}
 use Rattle.placement.specs.Tables.{Tables, tables, ownTables, places, written}
 use Rattle.placement.specs.Plan.{Plan, diskAccepted, disksAccepted, wellFormed}
-use Rattle.placement.specs.Held.{markedFrom, planHeld}
 use Rattle.placement.specs.Planning.{Call, PlanSums, layoutIn, planAfter, holdingFor, holdingCall, verdict, answerFor, tablesFor}
 use Rattle.placement.specs.PlanPromise.{PlanPromise}
 use Rattle.placement.specs.WellFormed.{Each, Entry, CallWellFormed}
 use Rattle.placement.proofs.Conjunctions.{both-true, false-true}
-use Rattle.placement.proofs.Racks.{accepted-disks, accepted-allSlots}
+use Rattle.placement.proofs.Racks.{accepted-allSlots}
 use Rattle.placement.proofs.Formed.{disk-entries, plan-rack, plan-disks}
 use Rattle.placement.proofs.MarkedCopies.{marked-none}
 use Rattle.placement.proofs.ReadBack.{places-length}
 use Rattle.placement.proofs.Calls.{call-wellFormed}
 use Rattle.placement.proofs.PlanPromise.{verdict-numbered}
-use Rattle.plan_text.specs.Held.{unusedZeroFrom}
-use Rattle.plan_text.specs.ReadCall.{Told, toldNothing, answerTo, textVerdict, judging}
-use Rattle.plan_text.proofs.OwnTables.{own-reading, own-rack, own-held, own-wellFormed}
-use Rattle.plan_text.proofs.Verdicts.{verdict-wellFormed, verdict-eight}
+use Rattle.plan_text.specs.ReadCall.{Told, textVerdict}
 use Rattle.reader.specs.Promise.{ReadPromise}
+use Rattle.reader.proofs.OwnReading.{formed-read, rack-few, copies-read, unused-read}
 use Rattle.plan_after.specs.Marking.{markedPlaces}
 use Rattle.plan_after.specs.Held.{NoneUnused, HeldBefore}
 use Rattle.plan_after.proofs.MarkedTables.{places-marked}
@@ -123,65 +117,20 @@ disks-used (d ∷ ds) (xs ∷ layout) e =
     let both = both-true (diskAccepted d xs) (disksAccepted ds layout) e in
     (entries-used (d .load) xs (disk-entries d xs (both .0)), disks-used ds layout (both .1))
 
--- A verdict by its numbers.
-verdict-refused : (w : Verdict Plan) (n s : ℕ) → 1 ≤ n → answerTo w ≡ record { refusal = n; second = s; values = toldNothing } → w ≡ refused n s
-verdict-refused (given p) n s some e = let none : 0 ≡ n = ap (λ (a : Numbers Told). a .refusal) e in absurd (omega arith)
-verdict-refused (refused m r) n s some e = ap₂ (λ (a b : ℕ). refused a b) (ap (λ (a : Numbers Told). a .refusal) e) (ap (λ (a : Numbers Told). a .second) e)
-
--- An earlier text, read into a list of at least 64 disks and tables of zeros.
+-- An earlier text, read into a list of at least 64 disks and tables of zeros: marks may be set by its plan.
 module _ (text : List ℕ) (lent : List Disk) (enough : mostDisks ≤ length lent) {rackExit : List Disk} {exit : Tables} {answer : Numbers Told}
-    (promise : ReadPromise text lent ownTables rackExit exit answer) where
-  judged : answer ≡ answerTo (textVerdict text)
-  unfolding judging
-  judged = promise .numbers ∙ own-reading text lent enough
-
-  -- It is refused.
-  pub read-refused : (r : Refusal) → answer ≡ record { refusal = numberOf r; second = secondOf r; values = toldNothing } → textVerdict text ≡ refused (numberOf r) (secondOf r)
-  read-refused r is = verdict-refused (textVerdict text) (numberOf r) (secondOf r) (number-some r) (sym judged ∙ is)
-
-  -- Or it is the text of a plan with the disks told.
-  pub read-given :
-      (values : Told) → answer ≡ record { refusal = 0; second = 0; values = values }
-      → (p : Plan) × (textVerdict text ≡ given p) × (values .disks ≡ length (p .rack))
-  read-given values is = go (textVerdict text) refl (sym judged ∙ is)
+    (promise : ReadPromise text lent ownTables rackExit exit answer) (p : Plan) (e : textVerdict text ≡ given p) where
+  pub held-before : length (exit .copies) ≡ 2048 → length (exit .counts) ≡ 64 → HeldBefore (p .rack) (exit .copies) (exit .counts)
+  held-before copies counts = record {
+    room = record {
+      copyPlaces = omega (arith, copies, accepted-allSlots (p .rack) (plan-rack p formed));
+      countPlaces = omega (arith, counts, rack-few text lent enough promise p e);
+    };
+    unused = unused-read text lent enough promise p e;
+    films =
+        subst (λ (l : List (List Copy)). Each NoneUnused (layoutOf l)) (sym (copies-read text lent enough promise p e))
+        (disks-used (p .rack) (layoutOf (p .copies)) (plan-disks p formed));
+  }
     where
-      go : (w : Verdict Plan) → textVerdict text ≡ w → answerTo w ≡ record { refusal = 0; second = 0; values = values }
-          → (p : Plan) × (textVerdict text ≡ given p) × (values .disks ≡ length (p .rack))
-      go (given p) e a = (p, e, sym (ap (λ (x : Numbers Told). x .values .disks) a))
-      go (refused n s) e a =
-          let none : n ≡ 0 = ap (λ (x : Numbers Told). x .refusal) a in
-          let eight : n ≡ 8 = verdict-eight text n s e (λ nine. omega arith) .0 in
-          absurd (omega arith)
-
-  module _ (p : Plan) (e : textVerdict text ≡ given p) where
-    formed-read : wellFormed p ≡ true
-    formed-read = verdict-wellFormed text p e
-
-    -- It has at most 64 disks,
-    pub rack-few : length (p .rack) ≤ mostDisks
-    rack-few = accepted-disks (p .rack) (plan-rack p formed-read) .1
-
-    -- the list begins with its rack,
-    pub rack-read : take (length (p .rack)) rackExit ≡ p .rack
-    rack-read = ap (take (length (p .rack))) (promise .rack) ∙ own-rack text lent enough p e
-
-    -- the tables hold its copies,
-    pub copies-read : markedFrom (p .rack) (exit .copies) (exit .counts) ≡ p .copies
-    copies-read =
-        ap (λ (t : Tables). planHeld (p .rack) t (length (p .left)) .copies) (promise .tables)
-        ∙ ap (λ (q : Plan). q .copies) (own-held text lent enough p e)
-
-    -- and marks may be set by them.
-    pub held-before : length (exit .copies) ≡ 2048 → length (exit .counts) ≡ 64 → HeldBefore (p .rack) (exit .copies) (exit .counts)
-    held-before copies counts = record {
-      room = record {
-        copyPlaces = omega (arith, copies, accepted-allSlots (p .rack) (plan-rack p formed-read));
-        countPlaces = omega (arith, counts, accepted-disks (p .rack) (plan-rack p formed-read) .1);
-      };
-      unused =
-          ap (λ (t : Tables). unusedZeroFrom (p .rack) (t .copies) (t .counts)) (promise .tables)
-          ∙ both-true _ _ (own-wellFormed text lent enough p e) .0;
-      films =
-          subst (λ (l : List (List Copy)). Each NoneUnused (layoutOf l)) (sym copies-read)
-          (disks-used (p .rack) (layoutOf (p .copies)) (plan-disks p formed-read));
-    }
+      formed : wellFormed p ≡ true
+      formed = formed-read text lent enough promise p e

@@ -22,3 +22,4 @@ pub mod PlanReading
 pub mod Promises
 pub mod Copied
 pub mod Calls
+pub mod OwnReading

@@ -19,10 +19,11 @@ use Rattle.placement.proofs.PackedRacks.{disks-length}
 use Rattle.plan_text.specs.ReadCall.{told, textVerdict}
 use Rattle.reader.specs.Answers.{numbersOf}
 use Rattle.reader.specs.Promise.{ReadPromise}
+use Rattle.reader.proofs.OwnReading.{read-refused, read-given, rack-few, rack-read, copies-read}
 use Rattle.reader.proofs.PackedDisks.{take-disks}
 use Rattle.plan_after.specs.Held.{HeldBefore}
 use Rattle.plan_after.proofs.AfterPromise.{refused-behind, marked-promise}
-use Rattle.plan_after.proofs.Steps.{read-refused, read-given, rack-few, rack-read, copies-read, held-before}
+use Rattle.plan_after.proofs.Steps.{held-before}
 use Rattle.plan_after.proofs.plan_with.Statement.{statement}
 use Rattle.plan_after.proofs.plan_with.Tie as tie
 
