@@ -1,0 +1,128 @@
+-- What the steps of transfers hold: stored copies and transfers as numbers, and which ends are busy in which round.
+use Prim.Native.Nat.{ℕ, suc, _+_, _*_, _/_, _%_, _≤_, _<_}
+use mathlib.Core.Path.{_≡_}
+use mathlib.Core.Bool.{Bool, true, cond}
+use mathlib.Core.List.{List, [], _∷_, _++_, map}
+use lib.ListN.{length, take, getD}
+use Rattle.refusal.specs.Verdict.{Verdict, given, refused, Numbers}
+use Rattle.placement.specs.Rack.{Disk}
+use Rattle.placement.specs.Packed.{disksIn}
+use Rattle.placement.specs.Plan.{Plan}
+use Rattle.placement.specs.WellFormed.{Each}
+use Rattle.plan_text.specs.Held.{unusedZeroFrom}
+use Rattle.writer.specs.Call.{CopyRoom}
+use Rattle.transfers.specs.Stored.{StoredCopy, stored, isStored, storedCopies}
+use Rattle.transfers.specs.Schedule.{Transfer, busyIn, earliestFrom, transferFor}
+use Rattle.transfers.specs.Counts.{ends}
+use Rattle.transfers.specs.Transfers.{mostTransferDisks, racksJudged, Plans, transfersOf, transferEntry, Sums, sums, sumsOf}
+
+-- A stored copy as one number, which ascends by disk, then film: the film has the lowest 24 bits.
+abbrev pub keyOf : StoredCopy → ℕ
+keyOf c = c .disk * 16777216 + c .film
+
+abbrev pub storedIn : ℕ → StoredCopy
+storedIn key = stored (key / 16777216) (key % 16777216)
+
+-- The stored copies of the first n keys.
+abbrev pub storedAt : ℕ → List ℕ → List StoredCopy
+storedAt n keys = map storedIn (take n keys)
+
+-- The tables of a plan have a place for each slot and each disk, and zero entries behind at most as many copies as slots.
+pub record TablesFit (rack : List Disk) (copies counts : List ℕ) : Type 0 where
+  pub room : CopyRoom rack copies counts
+  pub unused : unusedZeroFrom rack copies counts ≡ true
+
+-- A row of the table of busy rounds for each end, with a place for each round.
+abbrev pub rowLength : ℕ
+rowLength = 256
+
+abbrev pub busyPlaces : ℕ
+busyPlaces = 2304
+
+-- A stored copy of a rack of at most 8 disks, with a film of 16 bits.
+pub record CopyFits (c : StoredCopy) : Type 0 where
+  pub disk : c .disk ≤ mostTransferDisks
+  pub film : c .film < 65536
+
+-- A transfer whose numbers have room in its entry.
+pub record TransferFits (t : Transfer) : Type 0 where
+  pub source : t .source < ends
+  pub destination : t .destination < ends
+  pub film : t .film < 65536
+  pub round : t .round ≤ rowLength
+
+abbrev pub flag : Bool → ℕ
+flag b = cond b 1 0
+
+-- The table says which ends are busy in which round: 1 where the end takes part in a transfer of round r + 1, else 0.
+pub record BusyTable (busy : List ℕ) (placed : List Transfer) : Type 0 where
+  pub wide : length busy ≡ busyPlaces
+  pub rows : (end r : ℕ) → end < ends → r < rowLength → getD busy (end * rowLength + r) 0 ≡ flag (busyIn placed end (suc r))
+
+-- A round is the earliest of the first n where both ends are free, or the one behind them, for all transfers that the table says.
+abbrev pub EarliestFor : (busy : List ℕ) → (source destination n round : ℕ) → Type 0
+EarliestFor busy source destination n round =
+    (placed : List Transfer) → BusyTable busy placed → round ≡ earliestFrom n placed source destination 1
+
+-- Transfers with that of one copy more.
+abbrev pub placedWith : (old : List StoredCopy) → StoredCopy → List Transfer → List Transfer
+placedWith old c placed = placed ++ (transferFor old placed c ∷ [])
+
+-- An entry is that of the transfer of a copy behind n others, for all of them that the table says, and the table then has it too.
+abbrev pub PlacedNext : (old : List StoredCopy) → StoredCopy → (n : ℕ) → (busy busy′ : List ℕ) → (entry : ℕ) → Type 0
+PlacedNext old c n busy busy′ entry =
+    (placed : List Transfer) → length placed ≡ n → BusyTable busy placed
+    → (entry ≡ transferEntry (transferFor old placed c)) × BusyTable busy′ (placedWith old c placed)
+
+-- The first n entries are those of these transfers.
+pub record EntriesOf (n : ℕ) (entries : List ℕ) (placed : List Transfer) : Type 0 where
+  pub number : n ≡ length placed
+  pub front : take n entries ≡ map transferEntry placed
+
+-- The same, with the table of busy rounds.
+pub record Placed (n : ℕ) (entries busy : List ℕ) (placed : List Transfer) : Type 0 where
+  pub inFront : EntriesOf n entries placed
+  pub table : BusyTable busy placed
+
+-- Behind n transfers the copy's own is placed, unless the old plan has the copy.
+abbrev pub Loaded : (old : List StoredCopy) → StoredCopy → (n : ℕ) → (entries busy : List ℕ) → (n′ : ℕ) → (entries′ busy′ : List ℕ) → Type 0
+Loaded old c n entries busy n′ entries′ busy′ =
+    (placed : List Transfer) → Placed n entries busy placed
+    → Placed n′ entries′ busy′ (cond (isStored c old) placed (placedWith old c placed))
+
+-- The disks of a rack, and how many keys stand in front for these copies, unless the rack has more than 8 disks.
+abbrev pub StoredIn : (disks : ℕ) → List StoredCopy → (keys : List ℕ) → Verdict (ℕ × ℕ) → Type 0
+StoredIn disks copies keys v =
+    (n : ℕ) × (v ≡ given (disks, n)) × (n ≤ length keys) × (disks ≤ mostTransferDisks → storedAt n keys ≡ copies)
+
+-- A text that is refused, or whose plan's rack and stored copies stand in front.
+abbrev pub StoredText : Verdict Plan → (rack keys : List ℕ) → Verdict (ℕ × ℕ) → Type 0
+StoredText (refused number second) rack keys v = v ≡ refused number second
+StoredText (given p) rack keys v =
+    (disksIn (take (length (p .rack)) rack) ≡ p .rack) × StoredIn (length (p .rack)) (storedCopies p) keys v
+
+-- The new text behind an old one with this rack and so many copies.
+abbrev pub StoredNew : Verdict Plan → (old : List Disk) → (copies : ℕ) → (keys : List ℕ) → Verdict (ℕ × ℕ) → Type 0
+StoredNew (refused number second) old copies keys v = v ≡ refused number second
+StoredNew (given p) old copies keys v =
+    (n : ℕ) × (v ≡ racksJudged old (p .rack) (given (copies, n))) × (n ≤ length keys)
+    × (length (p .rack) ≤ mostTransferDisks → storedAt n keys ≡ storedCopies p)
+
+-- Two texts that are refused, or whose plans' stored copies stand in front of both lists of keys.
+abbrev pub StoredTexts : Verdict Plans → (oldkeys newkeys : List ℕ) → Verdict (ℕ × ℕ) → Type 0
+StoredTexts (refused number second) oldkeys newkeys v = v ≡ refused number second
+StoredTexts (given both) oldkeys newkeys v =
+    (m : ℕ) × (n : ℕ) × (v ≡ given (m, n)) × (m ≤ length oldkeys) × (n ≤ length newkeys)
+    × (storedAt m oldkeys ≡ storedCopies (both .old)) × (storedAt n newkeys ≡ storedCopies (both .new))
+
+-- The answer for some transfers, whose entries stand in front.
+pub record Outcome (ts : List Transfer) (entries : List ℕ) (answer : Numbers Sums) : Type 0 where
+  pub told : answer ≡ record { refusal = 0; second = 0; values = sumsOf ts }
+  pub front : take (length ts) entries ≡ map transferEntry ts
+  pub fit : Each TransferFits ts
+  pub room : length ts ≤ length entries
+
+-- Two texts that are refused, or whose transfers stand in front of the entries.
+abbrev pub WorkedOut : Verdict Plans → (entries : List ℕ) → Numbers Sums → Type 0
+WorkedOut (refused number second) entries answer = answer ≡ record { refusal = number; second = second; values = sums 0 0 }
+WorkedOut (given both) entries answer = Outcome (transfersOf both) entries answer

@@ -1,0 +1,159 @@
+// The two texts: read one after the other into tables of our own, and their racks compared.
+use crate::answer::TextRead;
+use crate::stored::put_disks;
+use reader::ReadAnswer;
+use refusal::Refusal;
+ghost use mathlib.Core.Path.{_≡_};
+ghost use mathlib.Core.Bool.{true};
+ghost use mathlib.Core.List.{map};
+ghost use Prim.Native.Nat.{_≤_};
+ghost use lib.ListN.{length};
+ghost use Rattle.refusal.specs.Verdict.{given};
+ghost use Rattle.placement.specs.Rack.{mostDisks, rackAccepted};
+ghost use Rattle.placement.specs.Packed.{disksIn};
+ghost use Rattle.placement.specs.Tables.{tables, ownTables};
+ghost use Rattle.placement.specs.Held.{markedFrom};
+ghost use Rattle.plan_text.specs.ReadCall.{textVerdict};
+ghost use Rattle.transfers.specs.Stored.{storedFrom};
+ghost use Rattle.transfers.specs.Transfers.{mostTransferDisks, sameLine, racksJudged, textsVerdict};
+ghost use Rattle.transfers.specs.Keys.{TablesFit, rowLength, StoredIn, StoredText, StoredNew, StoredTexts};
+ghost use Rattle.transfers.specs.Answers.{textRead};
+
+// The disks of a plan and how many keys its stored copies are; none where it has more than 8 disks.
+fn stored_copies(rack: &[u64], copies: &[u64], counts: &[u32], keys: &mut [u64]) -> TextRead
+    requires { ⌜ TablesFit (disksIn (now rack)) (now copies) (now counts) ⌝ }
+    requires { ⌜ rackAccepted (disksIn (now rack)) ≡ true ⌝ }
+    requires { ⌜ length (now keys) ≡ rowLength ⌝ }
+    ensures { λ r. ⌜ StoredIn (length (now (rack .entry))) (storedFrom 1 (markedFrom (disksIn (now (rack .entry))) (now (copies .entry)) (now (counts .entry))))
+        (now (keys .exit)) (textRead r) ⌝ }
+{
+    let disks = rack.len();
+    if disks > 8 {
+        return TextRead::Stored {
+            first: disks,
+            second: 0,
+        };
+    }
+    let stored = put_disks(rack, copies, counts, keys);
+    TextRead::Stored {
+        first: disks,
+        second: stored,
+    }
+}
+
+// Reads a text into packed disks and tables of zeros: its plan's rack stays in front, and its stored copies are put into keys.
+fn read_with(
+    text: &[u8],
+    rack: &mut [u64],
+    keys: &mut [u64],
+    copies: &mut [u64],
+    counts: &mut [u32],
+    left: &mut [u64],
+) -> TextRead
+    requires { ⌜ (length (now rack) ≡ mostDisks) × (length (now keys) ≡ rowLength) × (tables (now copies) (now counts) (now left) ≡ ownTables) ⌝ }
+    ensures { λ r. ⌜ StoredText (textVerdict (now (text .entry))) (now (rack .exit)) (now (keys .exit)) (textRead r) ⌝ }
+{
+    let read = reader::read(text, rack, copies, counts, left);
+    match read {
+        ReadAnswer::Refused(refusal) => TextRead::Declined(refusal),
+        ReadAnswer::Plan(plan) => stored_copies(&rack[..plan.disks as usize], copies, counts, keys),
+    }
+}
+
+// The same with tables of its own.
+fn read_stored(text: &[u8], rack: &mut [u64], keys: &mut [u64]) -> TextRead
+    requires { ⌜ (length (now rack) ≡ mostDisks) × (length (now keys) ≡ rowLength) ⌝ }
+    ensures { λ r. ⌜ StoredText (textVerdict (now (text .entry))) (now (rack .exit)) (now (keys .exit)) (textRead r) ⌝ }
+{
+    let mut copies = [0u64; 2048];
+    let mut counts = [0u32; 64];
+    let mut left = [0u64; 1024];
+    read_with(text, rack, keys, &mut copies, &mut counts, &mut left)
+}
+
+// Whether two racks are the same: the disks before `i` are.
+fn same_racks(old: &[u64], new: &[u64]) -> bool
+    ensures { λ r. ⌜ r ≡ sameLine (now (old .entry)) (now (new .entry)) ⌝ }
+{
+    if old.len() != new.len() {
+        return false;
+    }
+    let mut i = 0;
+    while i < old.len() {
+        if old[i] != new[i] {
+            return false;
+        }
+        i += 1;
+    }
+    true
+}
+
+// Judges two racks: 14, then 15. Equal racks have equal first lines and others have not.
+fn judge_racks(old: &[u64], new: &[u64], oldcopies: usize, newcopies: usize) -> TextRead
+    requires { ⌜ (rackAccepted (disksIn (now old)) ≡ true) × (rackAccepted (disksIn (now new)) ≡ true) ⌝ }
+    ensures { λ r. ⌜ textRead r ≡ racksJudged (disksIn (now (old .entry))) (disksIn (now (new .entry))) (given (oldcopies, newcopies)) ⌝ }
+{
+    if old.len() > 8 {
+        return TextRead::Declined(Refusal::TooManyDisks);
+    }
+    if new.len() > 8 {
+        return TextRead::Declined(Refusal::TooManyDisks);
+    }
+    if !same_racks(old, new) {
+        return TextRead::Declined(Refusal::FirstLinesDiffer);
+    }
+    TextRead::Stored {
+        first: oldcopies,
+        second: newcopies,
+    }
+}
+
+// Reads the new text behind an old one, and judges both racks.
+fn read_new(
+    new: &[u8],
+    oldrack: &[u64],
+    oldcopies: usize,
+    newrack: &mut [u64],
+    newkeys: &mut [u64],
+) -> TextRead
+    requires { ⌜ rackAccepted (disksIn (now oldrack)) ≡ true ⌝ }
+    requires { ⌜ (length (now newrack) ≡ mostDisks) × (length (now newkeys) ≡ rowLength) ⌝ }
+    ensures { λ r. ⌜ StoredNew (textVerdict (now (new .entry))) (disksIn (now (oldrack .entry))) oldcopies (now (newkeys .exit)) (textRead r) ⌝ }
+{
+    let read = read_stored(new, newrack, newkeys);
+    match read {
+        TextRead::Declined(refusal) => TextRead::Declined(refusal),
+        TextRead::Stored { first, second } => judge_racks(
+            oldrack,
+            &newrack[..first],
+            oldcopies,
+            second,
+        ),
+    }
+}
+
+// Reads both texts: the old one's refusals, then the new one's, then 14 and 15.
+pub(crate) fn read_texts(
+    old: &[u8],
+    new: &[u8],
+    oldrack: &mut [u64],
+    newrack: &mut [u64],
+    oldkeys: &mut [u64],
+    newkeys: &mut [u64],
+) -> TextRead
+    requires { ⌜ (length (now oldrack) ≡ mostDisks) × (length (now oldkeys) ≡ rowLength) ⌝ }
+    requires { ⌜ (length (now newrack) ≡ mostDisks) × (length (now newkeys) ≡ rowLength) ⌝ }
+    ensures { λ r. ⌜ StoredTexts (textsVerdict (now (old .entry)) (now (new .entry))) (now (oldkeys .exit)) (now (newkeys .exit)) (textRead r) ⌝ }
+{
+    let read = read_stored(old, oldrack, oldkeys);
+    match read {
+        TextRead::Declined(refusal) => TextRead::Declined(refusal),
+        TextRead::Stored { first, second } => read_new(
+            new,
+            &oldrack[..first],
+            second,
+            newrack,
+            newkeys,
+        ),
+    }
+}
