@@ -5,7 +5,9 @@ use Rattle.placement.specs.Planning.{PlanSums, sums}
 use Rattle.plan_text.specs.ReadCall.{Told, told}
 use Rattle.jugfjord.specs.declared.planning.Planned.{Planned}
 use Rattle.jugfjord.specs.declared.reading.ReadPlan.{ReadPlan}
+use Rattle.transfers.specs.Transfers.{Sums, sums as transferSums}
 use Rattle.jugfjord.specs.declared.writing.WrittenNumbers.{WrittenNumbers}
+use Rattle.jugfjord.specs.declared.transferring.Transferred.{Transferred}
 
 -- Of `struct jugfjord_planned`.
 abbrev pub plannedFields : Planned → Numbers PlanSums
@@ -23,3 +25,7 @@ readFields r = record {
   second = r .second;
   values = told (r .disks) (r .served) (r .unserved) (r .left);
 }
+
+-- Of `struct jugfjord_transferred`.
+abbrev pub transferredFields : Transferred → Numbers Sums
+transferredFields r = record { refusal = r .number; second = r .second; values = transferSums (r .transfers) (r .rounds) }

@@ -8,6 +8,8 @@ pub mod Earliest
 pub mod Inserted
 pub mod HeldFilms
 pub mod StoredPlans
+pub mod Strict
+pub mod Ordered
 pub mod Alone
 pub mod FewRounds
 pub mod Scheduled

@@ -111,7 +111,7 @@ higher-disks n film copies =
     (λ e. e)
 
 -- The films of a disk's copies stand there with and without marks alike.
-films-occur : (film : ℕ) (copies : List Copy) → countBy (eqb film) (filmsOf copies) ≡ occurrences film (map unmarked copies)
+pub films-occur : (film : ℕ) (copies : List Copy) → countBy (eqb film) (filmsOf copies) ≡ occurrences film (map unmarked copies)
 films-occur film [] = refl
 films-occur film (c ∷ cs) = ap (λ (n : ℕ). cond (eqb film (c .film)) 1 0 + n) (films-occur film cs)
 

@@ -8,9 +8,11 @@ use Rattle.refusal.specs.Verdict.{Verdict, given, refused, Numbers}
 use Rattle.placement.specs.Plan.{Plan}
 use Rattle.plan_text.specs.ReadCall.{answerTo as answerFor, textVerdict, judging}
 use Rattle.plan_text.proofs.Verdicts.{verdict-same}
+use Rattle.transfers.specs.Stored.{storedCopies}
 use Rattle.transfers.specs.Schedule.{Transfer}
 use Rattle.transfers.specs.Transfers.{Plans, textsVerdict, transfersOf, transfersVerdict, Sums, answerTo, transferring, listAfter}
 use Rattle.transfers.specs.TransfersPromise.{Listed, TransfersPromise}
+use Rattle.transfers.proofs.Ordered.{stored-ordered, transfers-ordered}
 use Rattle.transfers.proofs.BothTexts.{text-late, texts-late, texts-first, texts-second, texts-given}
 use Rattle.transfers.proofs.ReadPlans.{old-formed, new-formed, read-words}
 use Rattle.transfers.proofs.Judged.{judged-refused, by-call, answer-by, list-by}
@@ -74,6 +76,9 @@ module _ (old new entry : List ℕ) (rows : ℕ) where
         newText = verdict-same new (both .new) (read .second);
         fewDisks = (read .firstFew, read .secondFew);
         sameLine = read .line;
+        ordered =
+            transfers-ordered (storedCopies (both .old)) (storedCopies (both .new))
+            (stored-ordered (both .new) (new-formed old new both read));
         scheduled = read-words old new both read;
         listed = sym (list-by old new entry rows (given (transfersOf both)) f);
         told = sym (ap (λ (a : Numbers Sums). a .values) (answer-by old new (length entry) rows (given (transfersOf both)) f));

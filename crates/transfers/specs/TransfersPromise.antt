@@ -12,7 +12,7 @@ use Rattle.plan_text.specs.ReadCall.{judging}
 use Rattle.transfers.specs.Stored.{storedCopies}
 use Rattle.transfers.specs.Counts.{countBy, goes, ends, countTable, countAt, tableSum}
 use Rattle.transfers.specs.Transfers.{Plans, transfersOf, mostTransferDisks, transferEntry, Sums, sumsOf, transferring, listAfter, tableAfter, countsOf}
-use Rattle.transfers.specs.Words.{Scheduled}
+use Rattle.transfers.specs.Words.{copyMade, Ordered, Scheduled}
 
 -- Two texts of well-formed plans with the same first line and at most 8 disks, and their transfers in the lent list.
 pub record Listed (old new entry exit : List ℕ) (values : Sums) : Type 0 where
@@ -23,6 +23,8 @@ pub record Listed (old new entry exit : List ℕ) (values : Sums) : Type 0 where
   pub newText : textOf (both .new) ≡ new
   pub fewDisks : (length (both .old .rack) ≤ mostTransferDisks) × (length (both .new .rack) ≤ mostTransferDisks)
   pub sameLine : firstLine (both .old .rack) ≡ firstLine (both .new .rack)
+  -- "by ascending destination, then film"
+  pub ordered : Ordered (map copyMade (transfersOf both))
   pub scheduled : Scheduled (storedCopies (both .old)) (storedCopies (both .new)) (transfersOf both)
   pub listed : exit ≡ written (map transferEntry (transfersOf both)) entry
   pub told : values ≡ sumsOf (transfersOf both)

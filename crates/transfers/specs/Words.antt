@@ -1,7 +1,7 @@
 -- A schedule in document 02's words: what every list of transfers keeps.
 use Prim.Native.Nat.{ℕ, _+_, _*_, _≤_, _<_, max}
 use mathlib.Core.Path.{_≡_}
-use mathlib.Core.Bool.{Bool, true, false, cond, not, _&&_}
+use mathlib.Core.Bool.{true, false, cond, not, _&&_}
 use mathlib.Core.List.{List, [], _∷_, map}
 use mathlib.Core.Logic.{_⊎_}
 use lib.Dec.{eqb}
@@ -21,6 +21,20 @@ lacking old (c ∷ cs) =
 -- The copy that a transfer makes.
 abbrev pub copyMade : Transfer → StoredCopy
 copyMade t = stored (t .destination) (t .film)
+
+-- x stands before y: on a lower disk, or on the same disk with a lower film.
+abbrev pub StandsBefore : StoredCopy → StoredCopy → Type 0
+StandsBefore x y = (x .disk < y .disk) ⊎ ((x .disk ≡ y .disk) × (x .film < y .film))
+
+-- A copy stands before the first of a list, and each of the list before the next one.
+abbrev pub OrderedBehind : StoredCopy → List StoredCopy → Type 0
+OrderedBehind x [] = Unit {0}
+OrderedBehind x (y ∷ ys) = StandsBefore x y × OrderedBehind y ys
+
+-- Each copy of a list stands before the next one.
+abbrev pub Ordered : List StoredCopy → Type 0
+Ordered [] = Unit {0}
+Ordered (x ∷ xs) = OrderedBehind x xs
 
 -- The film is on the disk of a number.
 abbrev pub Holds : List StoredCopy → (disk film : ℕ) → Type 0
