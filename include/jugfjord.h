@@ -48,15 +48,17 @@
 extern "C" {
 #endif
 
-#define JUGFJORD_VERSION "0.5.0"
+#define JUGFJORD_VERSION "0.6.0"
 #define JUGFJORD_VERSION_MAJOR 0
-#define JUGFJORD_VERSION_MINOR 5
+#define JUGFJORD_VERSION_MINOR 6
 #define JUGFJORD_VERSION_PATCH 0
 
 #define JUGFJORD_MOST_COPIES 2048 /* the slots of all disks */
 #define JUGFJORD_MOST_DISKS 64
 #define JUGFJORD_MOST_LEFT 1024
 #define JUGFJORD_MOST_TEXT 54800 /* bytes of the longest plan text */
+#define JUGFJORD_MOST_TRANSFERS 256 /* the slots of 8 disks */
+#define JUGFJORD_ENDS 9 /* the loader, number 0, and 8 disks */
 
 /* The refusals. `second` is the record for 4, 5 and 6, the line for 9 and the disk for 13, each from 1; 0 for the others. */
 #define JUGFJORD_REFUSED_RACK_OUT_OF_RANGE 1   /* of the program `plan` alone, in the place of 12; no function here gives it */
@@ -65,13 +67,15 @@ extern "C" {
 #define JUGFJORD_REFUSED_FILM_OUT_OF_RANGE 4   /* film number 0 or above 65,535 */
 #define JUGFJORD_REFUSED_DEMAND_OUT_OF_RANGE 5 /* demand above 1,000,000 */
 #define JUGFJORD_REFUSED_FILM_REPEATED 6       /* film seen in an earlier record */
-#define JUGFJORD_REFUSED_TABLES_TOO_SHORT 7    /* a lent table, or the rack lent to reading, is too short */
+#define JUGFJORD_REFUSED_TABLES_TOO_SHORT 7    /* a lent table or list, or the rack lent to reading, is too short */
 #define JUGFJORD_REFUSED_TEXT_TOO_LONG 8       /* text of more than 65,536 bytes */
 #define JUGFJORD_REFUSED_LINE 9                /* the first line that no accepted text has after the lines before it */
 #define JUGFJORD_REFUSED_NOT_WELL_FORMED 10    /* the plan in the tables is not well formed */
 #define JUGFJORD_REFUSED_SPACE_TOO_SHORT 11    /* the space for the text is too short */
 #define JUGFJORD_REFUSED_DISKS_OUT_OF_RANGE 12 /* disks not 1 to 64, or of one slots not 1 to 32 or streams not 1 to 65,535 */
 #define JUGFJORD_REFUSED_RATIO_DIFFERS 13      /* the first disk whose ratio of streams to slots is not that of disk 1 */
+#define JUGFJORD_REFUSED_TOO_MANY_DISKS 14     /* more than 8 disks in the old or the new text, of transfers alone */
+#define JUGFJORD_REFUSED_FIRST_LINES_DIFFER 15 /* the first lines of the old and the new text, of transfers alone */
 
 /* The entry of a film with its viewers or its amount, without a mark. The film is at most 65,535: as a copy, 65,544 would be
  * film 8 with mark 1. */
@@ -188,6 +192,61 @@ struct jugfjord_read_plan jugfjord_read(const uint8_t *text, size_t text_count,
 /* Judges a text with no rack and no tables lent: the numbers that reading gives. Refusals 8, 9 with the line. Less than 32 KiB
  * of stack. */
 struct jugfjord_read_plan jugfjord_judge(const uint8_t *text, size_t text_count);
+
+/* The film of a transfer: its low 16 bits. */
+static inline uint32_t jugfjord_transfer_film(uint64_t transfer)
+{
+    return transfer & 0xffff;
+}
+
+/* Where a transfer's film comes from: the disk, or 0 for the loader. */
+static inline uint32_t jugfjord_transfer_source(uint64_t transfer)
+{
+    return (transfer >> 16) & 0xff;
+}
+
+/* The disk that a transfer goes to. */
+static inline uint32_t jugfjord_transfer_destination(uint64_t transfer)
+{
+    return (transfer >> 24) & 0xff;
+}
+
+/* The round in which a transfer runs, from 1. */
+static inline uint32_t jugfjord_transfer_round(uint64_t transfer)
+{
+    return (transfer >> 32) & 0xffffffff;
+}
+
+struct jugfjord_transferred {
+    uint32_t number;
+    uint32_t second;
+    uint32_t transfers; /* how many there are */
+    uint32_t rounds;    /* the largest round, 0 without transfers */
+};
+
+/* Finds the transfers that make a rack's new plan of its old one, and the rounds in which they run. There is one for each new
+ * copy whose film the old plan has not on the same disk. Its source is the lowest disk that holds the film in the old plan, else
+ * the loader, number 0. In one round every disk and the loader take part in at most one transfer. Transfers are placed by
+ * ascending destination, then film, each in the earliest round, from 1, where both ends are free. With d the most transfers that
+ * touch one disk or the loader, d at least 1, there are at most 2d - 1 rounds.
+ *
+ * A copy with 0 viewers is a copy, in the old plan and in the new. Viewers, left films and marks do not matter. The rack has up to
+ * 8 disks, equal or mixed, and both texts have the same first line.
+ *
+ * `transfers` gets an entry for each transfer, in the order in which they were placed. An entry is one number: the film in its
+ * bits 0 to 15, the source in 16 to 23, the destination in 24 to 31 and the round from bit 32 on; the functions above take it
+ * apart. JUGFJORD_MOST_TRANSFERS entries are always enough. `counts` has nine rows of nine numbers: counts[source][destination]
+ * becomes the number of transfers from the one to the other, and the sum over the table is the number of transfers. `rows` is the
+ * number of rows lent, at least JUGFJORD_ENDS. Entries beyond the transfers and rows beyond the nine stay as they were.
+ *
+ * Refusals 8 and 9 with the line for the old text, then 8 and 9 with the line for the new text, 14, 15, and 7 where the list is
+ * shorter than the transfers or there are fewer than nine rows. 8 and 9 do not say which text they are of: `jugfjord_judge` of
+ * the old text does. Where it refuses that text, it has the same two numbers and they are of the old text; else they are of the
+ * new one. Less than 128 KiB of stack. */
+struct jugfjord_transferred jugfjord_transfers(const uint8_t *old_text, size_t old_count,
+                                               const uint8_t *new_text, size_t new_count,
+                                               uint64_t *transfers, size_t transfers_count,
+                                               uint32_t (*counts)[9], size_t rows);
 
 #ifdef __cplusplus
 }

@@ -4,6 +4,8 @@
 use crate::rack::Disk;
 #[cfg(feature = "library")]
 use crate::tables::Entry;
+#[cfg(feature = "library")]
+use crate::transfers::{CountRow, Transfer};
 
 /// What planning answers. `number` is 0, or the refusal and then all else but `second` is 0.
 #[repr(C)]
@@ -35,6 +37,16 @@ pub struct ReadPlan {
     pub left: u32,
     pub served: u64,
     pub unserved: u64,
+}
+
+/// What finding transfers answers: how many there are, and the largest round, 0 without transfers.
+#[repr(C)]
+#[derive(Clone, Copy, Debug, Default, PartialEq, Eq)]
+pub struct Transferred {
+    pub number: u32,
+    pub second: u32,
+    pub transfers: u32,
+    pub rounds: u32,
 }
 
 #[cfg(feature = "library")]
@@ -95,4 +107,15 @@ extern "C" {
     ) -> ReadPlan;
 
     pub(crate) fn jugfjord_judge(text: *const u8, text_count: usize) -> ReadPlan;
+
+    pub(crate) fn jugfjord_transfers(
+        old_text: *const u8,
+        old_count: usize,
+        new_text: *const u8,
+        new_count: usize,
+        transfers: *mut Transfer,
+        transfers_count: usize,
+        counts: *mut CountRow,
+        rows: usize,
+    ) -> Transferred;
 }

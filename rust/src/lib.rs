@@ -10,5 +10,6 @@ pub mod rack;
 pub mod reference;
 pub mod refusal;
 pub mod tables;
+pub mod transfers;
 #[cfg(feature = "library")]
 pub mod wrap;

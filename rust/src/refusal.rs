@@ -3,7 +3,7 @@
 use std::error::Error;
 use std::fmt;
 
-use crate::ffi::{Planned, ReadPlan, Written};
+use crate::ffi::{Planned, ReadPlan, Transferred, Written};
 
 /// A refusal of documents 01 and 02 with its second number, which is 0 where they name none.
 #[derive(Clone, Copy, Debug, PartialEq, Eq)]
@@ -55,7 +55,7 @@ const fn words_of_a(second: &'static str, subject: &'static str, fault: &'static
 }
 
 /// The words for each refusal, from number 1 on.
-const WORDS: [Words; 13] = [
+const WORDS: [Words; 15] = [
     words("a number of the rack", "is out of range"),
     words("list length", "is no multiple of 8"),
     words("the list", "has more than 1024 records"),
@@ -77,6 +77,8 @@ const WORDS: [Words; 13] = [
         "the ratio of streams to slots",
         "is not that of disk 1",
     ),
+    words("the old or the new plan", "has more than 8 disks"),
+    words("the first lines", "of the old and the new plan differ"),
 ];
 
 impl Refusal {
@@ -134,4 +136,4 @@ macro_rules! may_refuse {
     )*};
 }
 
-may_refuse!(Planned, Written, ReadPlan);
+may_refuse!(Planned, Written, ReadPlan, Transferred);

@@ -5,9 +5,10 @@
 
 #![allow(unsafe_code)]
 
-use crate::ffi::{self, Planned, ReadPlan, Written};
+use crate::ffi::{self, Planned, ReadPlan, Transferred, Written};
 use crate::rack::Disk;
 use crate::tables::{LentTables, TablesView};
+use crate::transfers::{CountRow, Transfer};
 
 /// Calls a function with some arguments, the three tables, and the arguments after them.
 macro_rules! call {
@@ -93,4 +94,28 @@ pub fn read(text: &[u8], rack: &mut [Disk], tables: LentTables) -> ReadPlan {
 pub fn judge(text: &[u8]) -> ReadPlan {
     // SAFETY: as in `plan`.
     unsafe { ffi::jugfjord_judge(text.as_ptr(), text.len()) }
+}
+
+/// Finds the transfers that make the new text's plan of the old one's, each with its round, and
+/// counts them by source and destination. The counts take the first nine rows. Entries beyond the
+/// transfers and rows beyond the nine stay as they were. A refusal leaves all so.
+pub fn transfers(
+    old: &[u8],
+    new: &[u8],
+    list: &mut [Transfer],
+    counts: &mut [CountRow],
+) -> Transferred {
+    // SAFETY: as in `plan`. The library only reads the texts.
+    unsafe {
+        ffi::jugfjord_transfers(
+            old.as_ptr(),
+            old.len(),
+            new.as_ptr(),
+            new.len(),
+            list.as_mut_ptr(),
+            list.len(),
+            counts.as_mut_ptr(),
+            counts.len(),
+        )
+    }
 }

@@ -9,8 +9,8 @@ use crate::refusal::Refusal;
 use crate::tables::{Entry, LentTables};
 
 /// What a text holds: the entries of all disks and then of the left line, and their numbers.
-struct Parsed {
-    rack: Vec<Disk>,
+pub(super) struct Parsed {
+    pub(super) rack: Vec<Disk>,
     entries: Vec<Entry>,
     counts: Vec<u32>,
     copies: usize,
@@ -24,8 +24,7 @@ pub fn read(text: &[u8], rack: &mut [Disk], tables: LentTables) -> ReadPlan {
 }
 
 fn attempt(text: &[u8], rack: &mut [Disk], tables: LentTables) -> Result<ReadPlan, Refusal> {
-    Refusal::unless(text.len() <= MOST_BYTES, 8)?;
-    let parsed = parse(text).map_err(|second| Refusal { number: 9, second })?;
+    let parsed = judge_text(text)?;
     let left = parsed.entries.len() - parsed.copies;
     let entries = rack.get_mut(..parsed.rack.len());
     let entries = entries.ok_or(Refusal::plain(7))?;
@@ -40,6 +39,12 @@ fn attempt(text: &[u8], rack: &mut [Disk], tables: LentTables) -> Result<ReadPla
         served: parsed.served,
         unserved: parsed.unserved,
     })
+}
+
+/// What the text holds, or refusal 8 or 9.
+pub(super) fn judge_text(text: &[u8]) -> Result<Parsed, Refusal> {
+    Refusal::unless(text.len() <= MOST_BYTES, 8)?;
+    parse(text).map_err(|second| Refusal { number: 9, second })
 }
 
 /// Reads the whole text, or gives the number of the first wrong line.
@@ -72,6 +77,16 @@ fn parse(text: &[u8]) -> Result<Parsed, u32> {
 }
 
 impl Parsed {
+    /// The copies of each disk.
+    pub(super) fn disks(&self) -> impl Iterator<Item = &[Entry]> {
+        let mut rest = &self.entries[..];
+        self.counts.iter().map(move |&count| {
+            let (own, others) = rest.split_at(count as usize);
+            rest = others;
+            own
+        })
+    }
+
     fn disk(&mut self, cursor: &mut Cursor, disk: u32, holder: &mut [u8]) -> Option<()> {
         let Disk { slots, streams } = self.rack[disk as usize - 1];
         cursor.bytes(b"(disk ")?;
