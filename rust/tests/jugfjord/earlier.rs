@@ -81,6 +81,12 @@ pub fn random_text(dice: &mut Dice, case: &Case, tally: &mut Tally) -> Vec<u8> {
     set_marks(dice, &mut plan);
     tally.count(name);
     let mut text = text_of(&plan).into_bytes();
+    damage_at_times(dice, &mut text, tally);
+    text
+}
+
+/// Leaves most texts whole, and empties, fills up or damages the others.
+pub fn damage_at_times(dice: &mut Dice, text: &mut Vec<u8>, tally: &mut Tally) {
     let done = match dice.below(60) {
         0 => 0,
         1 | 2 => 1,
@@ -91,13 +97,12 @@ pub fn random_text(dice: &mut Dice, case: &Case, tally: &mut Tally) -> Vec<u8> {
         0 => text.clear(),
         1 => {
             let length = dice.pick(&LENGTHS);
-            fill_up(dice, &mut text, length);
+            fill_up(dice, text, length);
         }
-        2 => dice.pick(&DAMAGES).1(dice, &mut text),
+        2 => dice.pick(&DAMAGES).1(dice, text),
         _ => {}
     }
     tally.count(TEXTS[done]);
-    text
 }
 
 /// The plan of the list itself.

@@ -30,18 +30,24 @@ pub fn set_marks(dice: &mut Dice, plan: &mut Plan) {
     }
 }
 
-/// Copies with at most the load in sum, and often just the load. Some have no viewers, in any
-/// place of the disk.
+/// Copies of any films with such viewers.
 fn disk(dice: &mut Dice, disk: Disk) -> Vec<StoredCopy> {
     let count = dice.within(0, disk.slots.0);
+    let viewers = disk_viewers(dice, disk, count);
+    let films = films(dice, count as usize).into_iter();
+    films.zip(viewers).map(StoredCopy::from).collect()
+}
+
+/// The viewers of so many copies on a disk, with at most the load in sum, and often just the load.
+/// Some have none, in any place of the disk.
+pub fn disk_viewers(dice: &mut Dice, disk: Disk, count: u32) -> Vec<u32> {
     let most = count.min(disk.streams.0);
     let least = dice.pick(&[0, most]);
     let watched = dice.within(least, most);
     let mut viewers = viewers(dice, watched, disk.streams.0);
     viewers.resize(count as usize, 0);
     dice.shuffle(&mut viewers);
-    let films = films(dice, count as usize).into_iter();
-    films.zip(viewers).map(StoredCopy::from).collect()
+    viewers
 }
 
 /// The viewers of so many copies, each with some, at most the load in sum.
@@ -61,7 +67,7 @@ fn viewers(dice: &mut Dice, count: u32, load: u32) -> Vec<u32> {
 }
 
 /// So many left films in ascending order.
-fn left(dice: &mut Dice, count: usize) -> Vec<Pair> {
+pub fn left(dice: &mut Dice, count: usize) -> Vec<Pair> {
     let mut films = films(dice, count);
     films.sort_unstable();
     let mut amount = || match dice.below(8) {

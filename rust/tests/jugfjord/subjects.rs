@@ -1,11 +1,13 @@
 //! What is tested: the library, where it is linked, and the plain Rust modules.
 
-use jugfjord::ffi::{Planned, ReadPlan, Written};
+use jugfjord::ffi::{Planned, ReadPlan, Transferred, Written};
 use jugfjord::rack::Disk;
 use jugfjord::reference::{
-    after, fast_after, fast_reader, fast_writer, mixed_planner, reader, rolling, writer,
+    after, fast_after, fast_reader, fast_transfers, fast_writer, mixed_planner, reader, rolling,
+    transfers, writer,
 };
 use jugfjord::tables::{LentTables, TablesView};
+use jugfjord::transfers::{CountRow, Transfer};
 #[cfg(feature = "library")]
 use jugfjord::wrap;
 
@@ -14,6 +16,7 @@ pub type PlannerAfter = fn(&[Disk], &[u8], &[u8], LentTables) -> Planned;
 pub type Writer = fn(&[Disk], TablesView, u32, &mut [u8]) -> Written;
 pub type Reader = fn(&[u8], &mut [Disk], LentTables) -> ReadPlan;
 pub type Judge = fn(&[u8]) -> ReadPlan;
+pub type Finder = fn(&[u8], &[u8], &mut [Transfer], &mut [CountRow]) -> Transferred;
 
 /// The first of each is the one that the others are compared with.
 pub const PLANNERS: &[(&str, Planner)] = &[
@@ -50,4 +53,12 @@ pub const READERS: &[(&str, Reader)] = &[
 pub const JUDGES: &[(&str, Judge)] = &[
     #[cfg(feature = "library")]
     ("library", wrap::judge),
+];
+
+/// What finds the transfers from an old text's plan to a new one's.
+pub const FINDERS: &[(&str, Finder)] = &[
+    ("transfers", transfers::transfers),
+    ("fast transfers", fast_transfers::transfers),
+    #[cfg(feature = "library")]
+    ("library", wrap::transfers),
 ];
