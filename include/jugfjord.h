@@ -56,9 +56,9 @@ extern "C" {
 #define JUGFJORD_MOST_COPIES 2048 /* the slots of all disks */
 #define JUGFJORD_MOST_DISKS 64
 #define JUGFJORD_MOST_LEFT 1024
-#define JUGFJORD_MOST_TEXT 54800 /* bytes of the longest plan text */
+#define JUGFJORD_MOST_TEXT 54800    /* bytes of the longest plan text */
 #define JUGFJORD_MOST_TRANSFERS 256 /* the slots of 8 disks */
-#define JUGFJORD_ENDS 9 /* the loader, number 0, and 8 disks */
+#define JUGFJORD_ENDS 9             /* the loader, number 0, and 8 disks */
 
 /* The refusals. `second` is the record for 4, 5 and 6, the line for 9 and the disk for 13, each from 1; 0 for the others. */
 #define JUGFJORD_REFUSED_RACK_OUT_OF_RANGE 1   /* of the program `plan` alone, in the place of 12; no function here gives it */
@@ -214,7 +214,8 @@ static inline uint32_t jugfjord_transfer_destination(uint64_t transfer)
 /* The round in which a transfer runs, from 1. */
 static inline uint32_t jugfjord_transfer_round(uint64_t transfer)
 {
-    return (transfer >> 32) & 0xffffffff;
+    uint64_t high = transfer >> 32;
+    return high & 0xffffffff;
 }
 
 struct jugfjord_transferred {
@@ -230,8 +231,8 @@ struct jugfjord_transferred {
  * ascending destination, then film, each in the earliest round, from 1, where both ends are free. With d the most transfers that
  * touch one disk or the loader, d at least 1, there are at most 2d - 1 rounds.
  *
- * A copy with 0 viewers is a copy, in the old plan and in the new. Viewers, left films and marks do not matter. The rack has up to
- * 8 disks, equal or mixed, and both texts have the same first line.
+ * A copy with 0 viewers is a copy, in the old plan and in the new. Viewers, left films and marks do not matter. The rack has up
+ * to 8 disks, equal or mixed, and both texts have the same first line.
  *
  * `transfers` gets an entry for each transfer, in the order in which they were placed. An entry is one number: the film in its
  * bits 0 to 15, the source in 16 to 23, the destination in 24 to 31 and the round from bit 32 on; the functions above take it

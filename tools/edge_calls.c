@@ -367,6 +367,144 @@ static void judging(void)
     expect_number("its viewers not served", j.unserved, 0);
 }
 
+/* The parts of a transfer. */
+static void transfer_parts(void)
+{
+    uint64_t transfer = (UINT64_C(511) << 32) + (UINT64_C(7) << 24) + (UINT64_C(8) << 16) + 65535;
+    expect_number("the film of a transfer", jugfjord_transfer_film(transfer), 65535);
+    expect_number("its source", jugfjord_transfer_source(transfer), 8);
+    expect_number("its destination", jugfjord_transfer_destination(transfer), 7);
+    expect_number("its round", jugfjord_transfer_round(transfer), 511);
+    transfer = UINT64_MAX - (UINT64_C(255) << 16);
+    expect_number("the source between full parts", jugfjord_transfer_source(transfer), 0);
+    expect_number("the film below", jugfjord_transfer_film(transfer), 65535);
+    expect_number("the destination above", jugfjord_transfer_destination(transfer), 255);
+    expect_number("the largest round", jugfjord_transfer_round(transfer), 4294967295U);
+}
+
+/* Sets every lent transfer and every lent row of counts to 7. */
+static void set_all(uint64_t *transfers, size_t transfers_count, uint32_t (*table)[9], size_t rows)
+{
+    for (size_t i = 0; i < transfers_count; i++) transfers[i] = 7;
+    for (size_t row = 0; row < rows; row++) {
+        for (size_t column = 0; column < JUGFJORD_ENDS; column++) table[row][column] = 7;
+    }
+}
+
+/* Transfers with nothing lent, of wrong texts, of too many disks and of two racks. */
+static void transfers_refused(void)
+{
+    static const uint8_t nine_disks[] = "(rack 9 1 1)\n(disk 1)\n(disk 2)\n(disk 3)\n(disk 4)\n(disk 5)\n(disk 6)\n(disk 7)\n"
+                                        "(disk 8)\n(disk 9)\n(left)\n(served 0 0)\n";
+    size_t nine_length = sizeof nine_disks - 1;
+    struct jugfjord_transferred t = jugfjord_transfers(NULL, 0, NULL, 0, NULL, 0, NULL, 0);
+    expect("transfers of no texts", t.number, t.second, JUGFJORD_REFUSED_LINE, 1);
+    t = jugfjord_transfers(text, TEXT, NULL, 0, NULL, 0, NULL, 0);
+    expect("transfers from 65,537 bytes", t.number, t.second, JUGFJORD_REFUSED_TEXT_TOO_LONG, 0);
+    t = jugfjord_transfers(NULL, 0, text, TEXT, NULL, 0, NULL, 0);
+    expect("transfers from no text to 65,537 bytes", t.number, t.second, JUGFJORD_REFUSED_LINE, 1);
+    t = jugfjord_transfers(empty_plan, empty_plan_length, text, TEXT, NULL, 0, NULL, 0);
+    expect("transfers to 65,537 bytes", t.number, t.second, JUGFJORD_REFUSED_TEXT_TOO_LONG, 0);
+    t = jugfjord_transfers(nine_disks, nine_length, empty_plan, empty_plan_length - 1, NULL, 0, NULL, 0);
+    expect("transfers to an unended line", t.number, t.second, JUGFJORD_REFUSED_LINE, 4);
+    t = jugfjord_transfers(nine_disks, nine_length, nine_disks, nine_length, NULL, 0, NULL, 0);
+    expect("transfers of nine disks", t.number, t.second, JUGFJORD_REFUSED_TOO_MANY_DISKS, 0);
+    t = jugfjord_transfers(nine_disks, nine_length, empty_plan, empty_plan_length, NULL, 0, NULL, 0);
+    expect("transfers from nine disks to one", t.number, t.second, JUGFJORD_REFUSED_TOO_MANY_DISKS, 0);
+    t = jugfjord_transfers(empty_plan, empty_plan_length, nine_disks, nine_length, NULL, 0, NULL, 0);
+    expect("transfers from one disk to nine", t.number, t.second, JUGFJORD_REFUSED_TOO_MANY_DISKS, 0);
+    t = jugfjord_transfers(empty_plan, empty_plan_length, mixed_plan, mixed_plan_length, NULL, 0, NULL, 0);
+    expect("transfers between two racks", t.number, t.second, JUGFJORD_REFUSED_FIRST_LINES_DIFFER, 0);
+    t = jugfjord_transfers(empty_plan, empty_plan_length, empty_plan, empty_plan_length, NULL, 0, NULL, 0);
+    expect("transfers without rows", t.number, t.second, JUGFJORD_REFUSED_TABLES_TOO_SHORT, 0);
+}
+
+/* No transfer, with an empty list: eight rows are too few, nine are enough, and the tenth is not touched. */
+static void no_transfers(void)
+{
+    uint32_t table[10][9];
+    set_all(NULL, 0, table, 10);
+    struct jugfjord_transferred t =
+        jugfjord_transfers(marked_plan, marked_plan_length, marked_plan, marked_plan_length, NULL, 0, table, 8);
+    expect("transfers with eight rows", t.number, t.second, JUGFJORD_REFUSED_TABLES_TOO_SHORT, 0);
+    expect_number("a count after a refusal", table[0][0], 7);
+    t = jugfjord_transfers(marked_plan, marked_plan_length, marked_plan, marked_plan_length, NULL, 0, table, 9);
+    expect("transfers with nine rows", t.number, t.second, 0, 0);
+    expect_number("how many", t.transfers, 0);
+    expect_number("their rounds", t.rounds, 0);
+    expect_number("the first count", table[0][0], 0);
+    expect_number("the last count", table[8][8], 0);
+    expect_number("the row beyond", table[9][0], 7);
+    set_all(NULL, 0, table, 10);
+    t = jugfjord_transfers(marked_plan, marked_plan_length, empty_plan, empty_plan_length, NULL, 0, table, 10);
+    expect("transfers to the empty plan", t.number, t.second, 0, 0);
+    expect_number("the last count", table[8][8], 0);
+    expect_number("the tenth row", table[9][8], 7);
+}
+
+/* Films 1 and 3 change their disks and film 5 comes from the loader. Disk 1 gets 3 from disk 2 in round 1, and 5 in round 2. Disk
+ * 2 gets 1 from disk 1: both are busy in round 1 and disk 1 in round 2, so that it is in round 3. */
+static void three_transfers(void)
+{
+    static const uint8_t new_plan[] = "(mixed (4 8) (2 4))\n(disk 1 (5 0) (3 3 held))\n(disk 2 (1 4))\n(left)\n(served 7 0)\n";
+    static const uint8_t old_plan[] = "(mixed (4 8) (2 4))\n(disk 1 (2 3) (1 0))\n(disk 2 (3 3))\n(left)\n(served 6 0)\n";
+    size_t new_length = sizeof new_plan - 1, old_length = sizeof old_plan - 1;
+    uint64_t found[5];
+    uint32_t table[11][9], sum = 0;
+    set_all(found, 5, table, 11);
+    struct jugfjord_transferred t = jugfjord_transfers(old_plan, old_length, new_plan, new_length, found, 2, table, 11);
+    expect("two entries for three transfers", t.number, t.second, JUGFJORD_REFUSED_TABLES_TOO_SHORT, 0);
+    expect_number("how many after a refusal", t.transfers, 0);
+    expect_number("an entry after a refusal", found[0], 7);
+    expect_number("a count after a refusal", table[2][1], 7);
+    t = jugfjord_transfers(old_plan, old_length, new_plan, new_length, found, 3, table, 9);
+    expect("three entries for three transfers", t.number, t.second, 0, 0);
+    expect_number("the entry beyond", found[3], 7);
+    set_all(found, 5, table, 11);
+    t = jugfjord_transfers(old_plan, old_length, new_plan, new_length, found, 5, table, 11);
+    expect("five entries for three transfers", t.number, t.second, 0, 0);
+    expect_number("how many", t.transfers, 3);
+    expect_number("their rounds", t.rounds, 3);
+    expect_number("the first", found[0], (UINT64_C(1) << 32) + (UINT64_C(1) << 24) + (UINT64_C(2) << 16) + 3);
+    expect_number("the second", found[1], (UINT64_C(2) << 32) + (UINT64_C(1) << 24) + 5);
+    expect_number("the third", found[2], (UINT64_C(3) << 32) + (UINT64_C(2) << 24) + (UINT64_C(1) << 16) + 1);
+    expect_number("the entry beyond them", found[3], 7);
+    expect_number("from disk 2 to disk 1", table[2][1], 1);
+    expect_number("from the loader to disk 1", table[0][1], 1);
+    expect_number("from disk 1 to disk 2", table[1][2], 1);
+    expect_number("the row beyond", table[9][0], 7);
+    expect_number("the last row", table[10][8], 7);
+    for (size_t i = 0; i < JUGFJORD_ENDS * JUGFJORD_ENDS; i++) sum += table[i / JUGFJORD_ENDS][i % JUGFJORD_ENDS];
+    expect_number("the sum of the counts", sum, 3);
+}
+
+/* The most transfers there may be: 8 disks of 32 slots, and every film comes from the loader. */
+static void most_transfers(void)
+{
+    static uint64_t all_copies[JUGFJORD_MOST_TRANSFERS], found[JUGFJORD_MOST_TRANSFERS];
+    static uint8_t old_plan[JUGFJORD_MOST_TEXT];
+    uint32_t all_counts[8] = {0, 0, 0, 0, 0, 0, 0, 0}, table[JUGFJORD_ENDS][9];
+    jugfjord_equal_rack(rack, 8, 32, 64);
+    struct jugfjord_written o =
+        jugfjord_write(rack, 8, all_copies, JUGFJORD_MOST_TRANSFERS, all_counts, 8, NULL, 0, 0, old_plan, sizeof old_plan);
+    expect("write of 8 empty disks", o.number, o.second, 0, 0);
+    for (size_t disk = 0; disk < 8; disk++) all_counts[disk] = 32;
+    for (uint32_t i = 0; i < JUGFJORD_MOST_TRANSFERS; i++) all_copies[i] = jugfjord_entry(65535 - i, 2);
+    struct jugfjord_written n =
+        jugfjord_write(rack, 8, all_copies, JUGFJORD_MOST_TRANSFERS, all_counts, 8, NULL, 0, 0, text, TEXT);
+    expect("write of 8 full disks", n.number, n.second, 0, 0);
+    struct jugfjord_transferred t =
+        jugfjord_transfers(old_plan, o.length, text, n.length, found, JUGFJORD_MOST_TRANSFERS - 1, table, JUGFJORD_ENDS);
+    expect("255 entries for 256 transfers", t.number, t.second, JUGFJORD_REFUSED_TABLES_TOO_SHORT, 0);
+    t = jugfjord_transfers(old_plan, o.length, text, n.length, found, JUGFJORD_MOST_TRANSFERS, table, JUGFJORD_ENDS);
+    expect("256 transfers", t.number, t.second, 0, 0);
+    expect_number("how many", t.transfers, 256);
+    expect_number("their rounds", t.rounds, 256);
+    expect_number("the last", found[255], (UINT64_C(256) << 32) + (UINT64_C(8) << 24) + 65535 - 7 * 32);
+    expect_number("from the loader to disk 8", table[0][8], 32);
+    expect_number("from disk 8 to the loader", table[8][0], 0);
+}
+
 int main(void)
 {
     plan_of_nothing();
@@ -382,6 +520,11 @@ int main(void)
     writing();
     reading();
     judging();
+    transfer_parts();
+    transfers_refused();
+    no_transfers();
+    three_transfers();
+    most_transfers();
     printf("%d answers right, %d wrong\n", right, wrong);
     return wrong != 0;
 }

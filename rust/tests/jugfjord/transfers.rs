@@ -11,7 +11,7 @@ use crate::earlier::{damage_at_times, TEXTS};
 use crate::guarded::{too_short, Guarded};
 use crate::pairs::{PlanPair, OTHER_RACKS, RENEWALS};
 use crate::racks::{equal, mixed, Racks};
-use crate::subjects::FINDERS;
+use crate::subjects::{Finder, FINDERS};
 use crate::tally::Tally;
 use crate::transfer_rules::{check, most_at_one_end};
 
@@ -72,57 +72,60 @@ fn run(mut dice: Dice, racks: Racks, tally: &mut Tally) {
 /// Prints all counts, and asserts that every kind was met, and this one.
 fn close(tally: &Tally, own: (&str, usize)) {
     tally.close(&[own]);
-    tally.assert_met(&least());
+    tally.assert_met(&ANSWERS);
+    tally.assert_met(&KINDS);
+    tally.assert_met(&[("100 transfers or more", 100)]);
     tally.assert_met(&RENEWALS.map(|(name, _)| (name, CALLS / 20)));
     tally.assert_met(&OTHER_RACKS.map(|(name, _)| (name, 500)));
     tally.assert_met(&TEXTS.map(|name| (name, 1_000)));
 }
 
-/// How often each kind has to be met.
-fn least() -> Vec<(&'static str, usize)> {
-    vec![
-        ("accepted", CALLS / 3),
-        ("refused 7", 5_000),
-        ("refused 8", 500),
-        ("refused 9", 5_000),
-        ("refused 14", 5_000),
-        ("refused 15", 3_000),
-        ("old text refused alone", 3_000),
-        ("new text refused alone", 3_000),
-        ("both texts refused, unlike", 500),
-        ("more than 8 disks in the old text alone", 200),
-        ("more than 8 disks in the new text alone", 200),
-        ("more than 8 disks in both, first lines alike", 3_000),
-        ("more than 8 disks, and too little is lent", 1_000),
-        ("first lines differ, and too little is lent", 500),
-        ("a wrong text, and too little is lent", 1_000),
-        ("list too short alone", 1_000),
-        ("too few rows alone", 500),
-        ("list exact", 10_000),
-        ("list longer", 10_000),
-        ("list empty, no transfer", 1_000),
-        ("nine rows", 10_000),
-        ("more than nine rows", 5_000),
-        ("no transfer", 5_000),
-        ("all from the loader", 5_000),
-        ("none from the loader", 5_000),
-        ("from disks and the loader", 5_000),
-        ("film on several old disks", 5_000),
-        ("source with 0 viewers", 5_000),
-        ("destination with 0 viewers", 5_000),
-        ("copy kept", 10_000),
-        ("copy kept without viewers in the old plan", 5_000),
-        ("marked copy transferred", 5_000),
-        ("copy kept without a mark", 5_000),
-        ("films not ascending in the text", 5_000),
-        ("placed before one that was placed earlier", 3_000),
-        ("more rounds than transfers at any end", 1_000),
-        ("as many rounds as the bound admits, of three or more", 100),
-        ("two transfers or more in one round", 5_000),
-        ("100 transfers or more", 100),
-        ("eight disks", 5_000),
-    ]
-}
+/// How often each answer has to be met, and each kind of what is refused and lent.
+const ANSWERS: [(&str, usize); 23] = [
+    ("accepted", CALLS / 3),
+    ("refused 7", 5_000),
+    ("refused 8", 500),
+    ("refused 9", 5_000),
+    ("refused 14", 5_000),
+    ("refused 15", 3_000),
+    ("old text refused alone", 3_000),
+    ("new text refused alone", 3_000),
+    ("both texts refused, unlike", 500),
+    ("more than 8 disks in the old text alone", 200),
+    ("more than 8 disks in the new text alone", 200),
+    ("more than 8 disks in both, first lines alike", 3_000),
+    ("more than 8 disks, and too few rows", 1_000),
+    ("first lines differ, and too few rows", 500),
+    ("a wrong text, and too few rows", 1_000),
+    ("list too short alone", 1_000),
+    ("too few rows alone", 500),
+    ("list exact", 10_000),
+    ("list longer", 10_000),
+    ("list empty, no transfer", 1_000),
+    ("nine rows", 10_000),
+    ("more than nine rows", 5_000),
+    ("eight disks", 5_000),
+];
+
+/// How often each kind of accepted call has to be met.
+const KINDS: [(&str, usize); 16] = [
+    ("no transfer", 5_000),
+    ("all from the loader", 5_000),
+    ("none from the loader", 5_000),
+    ("from disks and the loader", 5_000),
+    ("film on several old disks", 5_000),
+    ("source with 0 viewers", 5_000),
+    ("destination with 0 viewers", 5_000),
+    ("copy kept", 10_000),
+    ("copy kept without viewers in the old plan", 5_000),
+    ("marked copy transferred", 5_000),
+    ("copy kept without a mark", 5_000),
+    ("films not ascending in the text", 5_000),
+    ("placed before one that was placed earlier", 3_000),
+    ("more rounds than transfers at any end", 1_000),
+    ("as many rounds as the bound admits, of three or more", 100),
+    ("two transfers or more in one round", 5_000),
+];
 
 /// The texts of a pair of plans, at times damaged, and a list and rows that mostly suffice.
 fn random_call(dice: &mut Dice, racks: Racks, tally: &mut Tally) -> Call {
@@ -167,7 +170,7 @@ fn random_lent(dice: &mut Dice, need: usize) -> Lent {
 /// Runs all on the call and compares their answers and every place. Gives what the last one made,
 /// which is the library where it is linked.
 fn compare(call: &Call) -> (Transferred, Lent) {
-    let find = |(name, finder): &(&'static str, crate::subjects::Finder)| {
+    let find = |(name, finder): &(&'static str, Finder)| {
         let mut lent = call.lent.clone();
         let Lent { list, counts } = &mut lent;
         let answer = finder(&call.old, &call.new, list.as_mut(), counts.as_mut());
@@ -223,45 +226,37 @@ fn tally_lent(lent: &Lent, answer: &Transferred, tally: &mut Tally) {
 
 /// Counts what a refused call has that might have been refused in its place.
 fn tally_refused(call: &Call, answer: &Transferred, tally: &mut Tally) {
-    let is_few_rows = call.lent.counts.as_ref().len() < ENDS;
-    tally.count_met(&[
-        (
-            "a wrong text, and too little is lent",
-            matches!(answer.number, 8 | 9) && is_few_rows,
-        ),
-        (
-            "more than 8 disks, and too little is lent",
-            answer.number == 14 && is_few_rows,
-        ),
-        (
-            "first lines differ, and too little is lent",
-            answer.number == 15 && is_few_rows,
-        ),
-    ]);
+    if call.lent.counts.as_ref().len() < ENDS {
+        tally.count_met(&[
+            (
+                "a wrong text, and too few rows",
+                matches!(answer.number, 8 | 9),
+            ),
+            ("more than 8 disks, and too few rows", answer.number == 14),
+            ("first lines differ, and too few rows", answer.number == 15),
+        ]);
+    }
     match (judge_text(&call.old), judge_text(&call.new)) {
-        (Ok(old), Ok(new)) => {
-            let [is_long, is_new_long] = [&old, &new].map(|plan| plan.rack.len() > 8);
-            let is_same = old.rack == new.rack;
-            tally.count_met(&[
-                (
-                    "more than 8 disks in the old text alone",
-                    is_long && !is_new_long,
-                ),
-                (
-                    "more than 8 disks in the new text alone",
-                    !is_long && is_new_long,
-                ),
-                (
-                    "more than 8 disks in both, first lines alike",
-                    is_long && is_same,
-                ),
-            ]);
-        }
+        (Ok(old), Ok(new)) => tally_racks(&old, &new, tally),
         (Err(old), Err(new)) if old != new => tally.count("both texts refused, unlike"),
         (Err(_), Err(_)) => tally.count("both texts refused alike"),
         (Err(_), Ok(_)) => tally.count("old text refused alone"),
         (Ok(_), Err(_)) => tally.count("new text refused alone"),
     }
+}
+
+/// Counts which of the racks of a refused call have too many disks.
+fn tally_racks(old: &Plan, new: &Plan, tally: &mut Tally) {
+    let [is_old, is_new] = [old, new].map(|plan| plan.rack.len() > 8);
+    let is_same = old.rack == new.rack;
+    tally.count_met(&[
+        ("more than 8 disks in the old text alone", is_old && !is_new),
+        ("more than 8 disks in the new text alone", !is_old && is_new),
+        (
+            "more than 8 disks in both, first lines alike",
+            is_old && is_same,
+        ),
+    ]);
 }
 
 /// The copy of a film on a disk by its number from 1.

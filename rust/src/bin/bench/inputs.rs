@@ -1,8 +1,9 @@
-//! What is planned, written and read.
+//! What is planned, written, read and moved from disk to disk.
 
-use jugfjord::rack::{places, Disk, Rack, Slots, Streams, MOST_DISKS};
+use jugfjord::rack::{places, Disk, Rack, Slots, Streams, MOST_DISKS, MOST_RECORDS, MOST_SLOTS};
 use jugfjord::reference::plan::{Pair, Plan};
 use jugfjord::reference::writer::text_of;
+use jugfjord::transfers::MOST_TRANSFER_DISKS;
 
 /// A list for planning.
 pub struct Input {
@@ -127,6 +128,53 @@ pub fn text(plan: &Plan, length: usize) -> Vec<u8> {
     let text = text_of(plan).into_bytes();
     assert_eq!(text.len(), length);
     text
+}
+
+/// An old and a new text with as many transfers as there may be, and their rounds.
+pub struct TextPair {
+    pub name: &'static str,
+    pub old: Vec<u8>,
+    pub new: Vec<u8>,
+    pub rounds: u32,
+}
+
+/// The largest racks whose transfers are found, every slot full and nothing in common on any disk.
+/// The loader takes part in all transfers or in none, and the texts name no left films or the most.
+pub fn text_pairs() -> [TextPair; 3] {
+    let films = |first: u32| -> Vec<Vec<u32>> {
+        let of_disk = |disk: u32| (0..MOST_SLOTS).map(move |slot| first + MOST_SLOTS * disk + slot);
+        let disks = 0..MOST_TRANSFER_DISKS as u32;
+        disks.map(|disk| of_disk(disk).rev().collect()).collect()
+    };
+    let (old, others) = (films(10_000), films(20_000));
+    let mut moved = old.clone();
+    moved.rotate_right(1);
+    let pair = |name, new: &[Vec<u32>], left, rounds| TextPair {
+        name,
+        old: full_text(&old, left),
+        new: full_text(new, left),
+        rounds,
+    };
+    [
+        pair("every film from the loader", &others, 0, 256),
+        pair("every film moves to the next disk", &moved, 0, 64),
+        pair("the same, and 1,024 left films", &moved, MOST_RECORDS, 64),
+    ]
+}
+
+/// The text of a plan with a copy in each slot of large disks, each with 1,000 viewers, and so many
+/// left films.
+fn full_text(films: &[Vec<u32>], left: usize) -> Vec<u8> {
+    let copies = |films: &Vec<u32>| {
+        let copies = films.iter().map(|&film| (film, 1_000).into());
+        copies.collect()
+    };
+    let plan = Plan {
+        rack: vec![Disk::largest(); films.len()],
+        disks: films.iter().map(copies).collect(),
+        left: (10_000..).map(|film| (film, 1)).take(left).collect(),
+    };
+    text_of(&plan).into_bytes()
 }
 
 #[cfg(test)]

@@ -7,12 +7,13 @@ mod timing;
 
 use std::hint::black_box;
 
-use inputs::{Input, RackPair};
+use inputs::{Input, RackPair, TextPair};
 use jugfjord::ffi::Planned;
 use jugfjord::rack::{records, Disk};
 use jugfjord::reference::plan::Plan;
-use jugfjord::reference::{fast_reader, fast_writer, rolling};
+use jugfjord::reference::{fast_reader, fast_transfers, fast_writer, rolling};
 use jugfjord::tables::{Entry, LentTables, OwnTables};
+use jugfjord::transfers::{Transfer, ENDS, MOST_TRANSFERS};
 use jugfjord::wrap;
 use timing::{compare, Comparison};
 
@@ -41,6 +42,10 @@ fn main() {
         plan.store(&mut tables.lend());
         show_speed("write", length, &write_both(&plan, &tables, &text));
         show_speed("read", length, &read_both(&plan, &tables, &text));
+    }
+    println!("256 transfers, 8 disks of 32 slots: library, Rust, ratio");
+    for pair in inputs::text_pairs() {
+        show_time(pair.name, &find_both(&pair));
     }
 }
 
@@ -114,6 +119,25 @@ fn read_both(plan: &Plan, tables: &OwnTables, text: &[u8]) -> Comparison {
     compare(
         || wrap::read(black_box(text), our_rack, ours.lend()),
         || fast_reader::read(black_box(text), their_rack, theirs.lend()),
+    )
+}
+
+/// Checks that both find the same transfers, as many as there may be, then times them.
+fn find_both(pair: &TextPair) -> Comparison {
+    let TextPair { old, new, .. } = pair;
+    let (mut our_list, mut our_counts) = ([Transfer::default(); MOST_TRANSFERS], [[7; ENDS]; ENDS]);
+    let (mut their_list, mut their_counts) = (our_list, our_counts);
+    let found = wrap::transfers(old, new, &mut our_list, &mut our_counts);
+    let rivals = fast_transfers::transfers(old, new, &mut their_list, &mut their_counts);
+    assert_eq!(found, rivals);
+    assert_eq!((found.number, found.rounds), (0, pair.rounds));
+    assert_eq!(found.transfers as usize, MOST_TRANSFERS);
+    assert!(our_list == their_list, "the transfers differ");
+    assert!(our_counts == their_counts, "the counts differ");
+    let texts = || (black_box(&old[..]), black_box(&new[..]));
+    compare(
+        || wrap::transfers(texts().0, texts().1, &mut our_list, &mut our_counts),
+        || fast_transfers::transfers(texts().0, texts().1, &mut their_list, &mut their_counts),
     )
 }
 
