@@ -34,9 +34,9 @@ fn attempt(
     for (at, &transfer) in transfers.iter().enumerate() {
         list[at] = transfer;
     }
-    for source in 0..ENDS {
-        for destination in 0..ENDS {
-            counts[source][destination] = count(&transfers, source, destination);
+    for (source, row) in counts[..ENDS].iter_mut().enumerate() {
+        for (destination, place) in row.iter_mut().enumerate() {
+            *place = count(&transfers, source, destination);
         }
     }
     Ok(Transferred {
