@@ -82,6 +82,23 @@ fn expect_refused(texts: (&[u8], &[u8]), lent: (usize, usize), number: u32, seco
 }
 
 #[test]
+fn a_transfer_has_its_four_numbers() {
+    for (source, destination, film, round) in
+        [(8, 7, 65_535, 511), (0, 8, 1, 1), (255, 0, 2, u32::MAX)]
+    {
+        let transfer = Transfer::of(source, destination, film, round);
+        assert_eq!(transfer.source(), source);
+        assert_eq!(transfer.destination(), destination);
+        assert_eq!(transfer.film(), film);
+        assert_eq!(transfer.round(), round);
+    }
+    assert_eq!(
+        format!("{:?}", Transfer::of(8, 7, 65_535, 511)),
+        "(8 7 65535 511)"
+    );
+}
+
+#[test]
 fn a_plan_is_made_of_itself_by_no_transfer() {
     let same = text("(rack 2 2 5)", &["(1 1) (2 1)", "(2 4)"], 6);
     expect(&same, &same, &[], 0, &[]);
