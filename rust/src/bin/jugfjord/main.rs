@@ -14,6 +14,7 @@ mod failure;
 mod list;
 mod list_file;
 mod list_line;
+mod page;
 mod plan_file;
 mod planning;
 mod show;

@@ -3,15 +3,15 @@
 use jugfjord::rack::Disk;
 use jugfjord::tables::{Entry, TablesView};
 
-use super::page::Row;
+use crate::page::{Row, Titles};
 
-pub const TITLES: [&str; 4] = ["disk", "slots used", "streams used", ""];
+pub const TITLES: Titles<3> = (["disk", "slots used", "streams used"], "");
 
 /// The characters of a bar.
 const BAR: usize = 20;
 
 /// The rows of all disks. Where the plan has marks, each row says how many the disk's copies have.
-pub fn rows(rack: &[Disk], tables: &TablesView) -> Vec<Row> {
+pub fn rows(rack: &[Disk], tables: &TablesView) -> Vec<Row<3>> {
     let most_held = copies(rack, tables).map(|(_, copies)| held(copies)).max();
     let most_held = most_held.unwrap_or(0);
     let row = |((number, copies), disk): ((u32, &[Entry]), &Disk)| {

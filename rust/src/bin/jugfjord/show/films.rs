@@ -7,13 +7,12 @@ use jugfjord::rack::Disk;
 use jugfjord::tables::TablesView;
 
 use super::disks;
-use super::page::Row;
+use crate::page::{Row, Titles, GAP};
 
-pub const TITLES: [&str; 4] = ["film", "served", "left", "disk:viewers"];
+pub const TITLES: Titles<3> = (["film", "served", "left"], "disk:viewers");
 
 /// The width of a line of copies. With the numbers before it a row has at most 79 characters.
 const WIDTH: usize = 54;
-const GAP: &str = "  ";
 /// Stands in the place of a copy's viewers where it has none.
 const SHELF: &str = "shelf";
 /// Stands in the place of what is left where a film has no copy and no viewers are left.
@@ -82,7 +81,7 @@ impl Film {
 }
 
 /// The rows of all films.
-pub fn rows(films: &Films) -> Vec<Row> {
+pub fn rows(films: &Films) -> Vec<Row<3>> {
     let copies = || films.values().flat_map(|film| &film.copies);
     let disk = widest(copies().map(|copy| copy.disk.to_string()));
     let viewers = widest(copies().map(Stored::shown));
@@ -130,7 +129,7 @@ fn copy_lines(copies: &[Stored], disk: usize, viewers: usize) -> Vec<String> {
 }
 
 /// A film's row, and one more for each further line of its copies.
-fn rows_of(number: u32, film: &Film, copy_lines: Vec<String>) -> impl Iterator<Item = Row> {
+fn rows_of(number: u32, film: &Film, copy_lines: Vec<String>) -> impl Iterator<Item = Row<3>> {
     let first = [
         number.to_string(),
         film.served().to_string(),

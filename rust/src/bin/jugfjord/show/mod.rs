@@ -2,7 +2,6 @@
 
 mod disks;
 mod films;
-mod page;
 
 use jugfjord::ffi::ReadPlan;
 use jugfjord::rack::{places, Disk, MOST_DISKS};
@@ -11,12 +10,9 @@ use jugfjord::wrap;
 
 use crate::arguments::Arguments;
 use crate::failure::Failure;
+use crate::page::{counted, Page, WIDTH};
 use crate::{plan_file, standard};
 use films::{Film, Films, HELD};
-use page::Page;
-
-/// The most characters of a line.
-const WIDTH: usize = 79;
 
 /// The plan of a text, for people.
 pub fn show(arguments: &Arguments) -> Result<Vec<u8>, Failure> {
@@ -124,13 +120,5 @@ fn joined(first: &str, second: &str) -> String {
         format!("{first};\n{second}")
     } else {
         one
-    }
-}
-
-/// A number of things.
-fn counted(number: impl Into<u64>, thing: &str) -> String {
-    match number.into() {
-        1 => format!("1 {thing}"),
-        number => format!("{number} {thing}s"),
     }
 }

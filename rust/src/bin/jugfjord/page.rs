@@ -1,25 +1,34 @@
 //! A page of sentences and tables whose columns line up.
 
+use std::array::from_fn;
+
 const BOLD: &str = "1";
 const YELLOW: &str = "33";
 
-/// One row of a table: columns, and what stands behind them. Some rows are in colour.
-pub struct Row {
-    pub columns: [String; 3],
+/// The most characters of a line.
+pub const WIDTH: usize = 79;
+/// What stands between two columns, and between two things in the last of them.
+pub const GAP: &str = "  ";
+
+/// One row of a table: so many columns, and what stands behind them. Some rows are in colour.
+pub struct Row<const COLUMNS: usize> {
+    pub columns: [String; COLUMNS],
     pub detail: String,
     pub in_colour: bool,
 }
 
-impl Row {
+impl<const COLUMNS: usize> Row<COLUMNS> {
     /// The row with its columns set to the right.
-    fn aligned(&self, widths: [usize; 3]) -> String {
-        let [first, second, third] = &self.columns;
-        let [one, two, three] = widths;
-        let detail = &self.detail;
-        let line = format!("{first:>one$}  {second:>two$}  {third:>three$}  {detail}");
+    fn aligned(&self, widths: [usize; COLUMNS]) -> String {
+        let columns = self.columns.iter().zip(widths);
+        let columns = columns.map(|(column, width)| format!("{column:>width$}{GAP}"));
+        let line = columns.collect::<String>() + &self.detail;
         line.trim_end().into()
     }
 }
+
+/// The titles of a table's columns, and of what stands behind them.
+pub type Titles<const COLUMNS: usize> = ([&'static str; COLUMNS], &'static str);
 
 /// The page so far.
 pub struct Page {
@@ -43,17 +52,20 @@ impl Page {
     }
 
     /// Adds a table, unless it is empty.
-    pub fn table(&mut self, titles: [&str; 4], rows: Vec<Row>) {
+    pub fn table<const COLUMNS: usize>(
+        &mut self,
+        (columns, detail): Titles<COLUMNS>,
+        rows: Vec<Row<COLUMNS>>,
+    ) {
         if rows.is_empty() {
             return;
         }
-        let [columns @ .., detail] = titles.map(str::to_string);
         let titles = Row {
-            columns,
-            detail,
+            columns: columns.map(str::to_string),
+            detail: detail.into(),
             in_colour: false,
         };
-        let widths = [0, 1, 2].map(|at| {
+        let widths = from_fn(|at| {
             let all = rows.iter().chain([&titles]);
             all.map(|row| row.columns[at].len()).max().unwrap_or(0)
         });
@@ -81,5 +93,13 @@ impl Page {
             Some(style) => self.text += &format!("\x1b[{style}m{line}\x1b[0m\n"),
             None => self.text += &format!("{line}\n"),
         }
+    }
+}
+
+/// A number of things.
+pub fn counted(number: impl Into<u64>, thing: &str) -> String {
+    match number.into() {
+        1 => format!("1 {thing}"),
+        number => format!("{number} {thing}s"),
     }
 }
