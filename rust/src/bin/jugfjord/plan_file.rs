@@ -11,38 +11,51 @@ use crate::words::{quoted, shown};
 
 /// One line about the plan of an accepted text.
 pub fn check(arguments: &Arguments) -> Result<Vec<u8>, Failure> {
-    let source = arguments.file(0);
-    let text = read(source)?;
-    let plan = wrap::judge(&text)
-        .accepted()
-        .map_err(|refusal| refused(source, &text, refusal))?;
+    let file = PlanFile::read(arguments.file(0))?;
+    let judged = wrap::judge(&file.text).accepted();
+    let plan = judged.map_err(|refusal| file.refused(refusal))?;
     let sums = format!("served {}, not served {}", plan.served, plan.unserved);
-    Ok(format!("accepted: {}, {sums}\n", first_form(&text)).into_bytes())
+    Ok(format!("accepted: {}, {sums}\n", file.first_form()).into_bytes())
 }
 
-/// What the first line of an accepted text has in its brackets: the rack.
-fn first_form(text: &[u8]) -> String {
-    let line = text.split(|&byte| byte == b'\n').next().unwrap_or(text);
-    let inner = line
-        .strip_prefix(b"(")
-        .and_then(|line| line.strip_suffix(b")"));
-    shown(inner.unwrap_or(line))
+/// The text of a plan, and where it stands.
+pub struct PlanFile<'a> {
+    pub source: &'a Source,
+    pub text: Vec<u8>,
 }
 
-/// The file's bytes, or one more than the longest text that is looked at.
-pub fn read(source: &Source) -> Result<Vec<u8>, Failure> {
-    source.read(MOST_BYTES + 1)
+impl<'a> PlanFile<'a> {
+    /// The file's bytes, or one more than the longest text that is looked at.
+    pub fn read(source: &'a Source) -> Result<Self, Failure> {
+        let text = source.read(MOST_BYTES + 1)?;
+        Ok(PlanFile { source, text })
+    }
+
+    /// The failure of a text that is refused.
+    pub fn refused(&self, refusal: Refusal) -> Failure {
+        Failure::refused(match refusal.number {
+            9 => {
+                let at = self.source.line(refusal.second as usize);
+                format!("{at}: {}", wrong_line(&self.text, refusal))
+            }
+            _ => format!("{}: {refusal}", self.source.name()),
+        })
+    }
+
+    /// What the first line of an accepted text has in its brackets: the rack.
+    fn first_form(&self) -> String {
+        let line = first_line(&self.text);
+        let inner = line
+            .strip_prefix(b"(")
+            .and_then(|line| line.strip_suffix(b")"));
+        shown(inner.unwrap_or(line))
+    }
 }
 
-/// The failure of a text that is refused.
-pub fn refused(source: &Source, text: &[u8], refusal: Refusal) -> Failure {
-    Failure::refused(match refusal.number {
-        9 => {
-            let line = refusal.second as usize;
-            format!("{}: {}", source.line(line), wrong_line(text, refusal))
-        }
-        _ => format!("{}: {refusal}", source.name()),
-    })
+/// The first line of the bytes, without its end.
+fn first_line(bytes: &[u8]) -> &[u8] {
+    let mut lines = bytes.split(|&byte| byte == b'\n');
+    lines.next().unwrap_or(bytes)
 }
 
 /// What is wrong with the line of a refusal 9, and its content.
@@ -50,7 +63,7 @@ fn wrong_line(text: &[u8], refusal: Refusal) -> String {
     let numbers = refusal.numbers();
     let before = start_of(text, refusal.second as usize);
     let (earlier, rest) = text.split_at(before);
-    let line = rest.split(|&byte| byte == b'\n').next().unwrap_or(rest);
+    let line = first_line(rest);
     let said = if wrap::judge(earlier).number == 0 {
         format!("bytes after the last line {numbers}")
     } else if rest.is_empty() {

@@ -8,7 +8,7 @@ use jugfjord::wrap;
 use crate::arguments::Arguments;
 use crate::failure::Failure;
 use crate::list::{List, ListRack};
-use crate::plan_file;
+use crate::plan_file::PlanFile;
 use crate::standard::Source;
 
 /// The plan text of the list, with marks where an earlier plan is given.
@@ -16,28 +16,15 @@ pub fn plan(arguments: &Arguments) -> Result<Vec<u8>, Failure> {
     let list = List::asked(arguments)?;
     let earlier = arguments
         .file_of("--after")
-        .map(Earlier::read)
+        .map(PlanFile::read)
         .transpose()?;
     plan_text(&list, earlier.as_ref()).map_err(|refusal| match (refusal.number, &earlier) {
-        (8 | 9, Some(earlier)) => plan_file::refused(earlier.source, &earlier.text, refusal),
+        (8 | 9, Some(earlier)) => earlier.refused(refusal),
         _ => {
             let at = place(arguments.file(0), &list, refusal);
             Failure::refused(format!("{at}: {}", explained(&list, refusal)))
         }
     })
-}
-
-/// The text of an earlier plan, and where it stands.
-struct Earlier<'a> {
-    source: &'a Source,
-    text: Vec<u8>,
-}
-
-impl<'a> Earlier<'a> {
-    fn read(source: &'a Source) -> Result<Self, Failure> {
-        let text = plan_file::read(source)?;
-        Ok(Earlier { source, text })
-    }
 }
 
 /// The list as the bytes that `plan` reads.
@@ -53,12 +40,12 @@ pub fn records(arguments: &Arguments) -> Result<Vec<u8>, Failure> {
 }
 
 /// The text that the library writes of the plan that it makes, after an earlier one or without.
-fn plan_text(list: &List, earlier: Option<&Earlier>) -> Result<Vec<u8>, Refusal> {
+fn plan_text(list: &List, earlier: Option<&PlanFile>) -> Result<Vec<u8>, Refusal> {
     let (rack, records) = (list.rack.entries(), &list.records);
     let numbered = |refusal| numbered(list, refusal);
     let mut tables = OwnTables::for_any_plan();
     let planned = match earlier {
-        Some(Earlier { text, .. }) => wrap::plan_after(&rack, records, text, tables.lend()),
+        Some(PlanFile { text, .. }) => wrap::plan_after(&rack, records, text, tables.lend()),
         None => wrap::plan(&rack, records, tables.lend()),
     };
     let left = planned.accepted().map_err(numbered)?.left;

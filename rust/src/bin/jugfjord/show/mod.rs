@@ -11,18 +11,17 @@ use jugfjord::wrap;
 use crate::arguments::Arguments;
 use crate::failure::Failure;
 use crate::page::{counted, Page, WIDTH};
-use crate::{plan_file, standard};
+use crate::plan_file::PlanFile;
+use crate::standard;
 use films::{Film, Films, HELD};
 
 /// The plan of a text, for people.
 pub fn show(arguments: &Arguments) -> Result<Vec<u8>, Failure> {
-    let source = arguments.file(0);
-    let text = plan_file::read(source)?;
+    let file = PlanFile::read(arguments.file(0))?;
     let mut rack = [Disk::default(); MOST_DISKS as usize];
     let mut tables = OwnTables::for_any_plan();
-    let plan = wrap::read(&text, &mut rack, tables.lend())
-        .accepted()
-        .map_err(|refusal| plan_file::refused(source, &text, refusal))?;
+    let read = wrap::read(&file.text, &mut rack, tables.lend()).accepted();
+    let plan = read.map_err(|refusal| file.refused(refusal))?;
     let rack = &rack[..plan.disks as usize];
     let films = films::gather(rack, &tables.view(), plan.left);
     let mut page = Page::new(standard::may_be_coloured());
