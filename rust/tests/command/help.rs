@@ -2,7 +2,7 @@
 
 use crate::folder::Folder;
 
-const COMMANDS: [&str; 4] = ["plan", "records", "check", "show"];
+const COMMANDS: [&str; 5] = ["plan", "records", "check", "show", "transfers"];
 const STATUSES: [&str; 3] = ["  0  done", "  1  refused", "  2  not done"];
 
 #[test]
@@ -15,6 +15,7 @@ fn help_names_every_use_and_the_exit_statuses() {
         "records LIST",
         "check PLAN",
         "show PLAN",
+        "transfers OLD NEW",
     ];
     for words in uses {
         assert!(
@@ -84,7 +85,7 @@ fn the_man_page_names_every_command() {
 }
 
 /// Wrong command lines, and what is said of them.
-const WRONG: [(&[&str], &str); 21] = [
+const WRONG: [(&[&str], &str); 26] = [
     (&[], "expected a command, see jugfjord --help"),
     (&["plam"], "there is no command 'plam', see jugfjord --help"),
     (
@@ -156,6 +157,26 @@ const WRONG: [(&[&str], &str); 21] = [
     (
         &["plan", "-", "--after", "-"],
         "plan expects - once, see jugfjord plan --help",
+    ),
+    (
+        &["transfers"],
+        "transfers expects OLD, see jugfjord transfers --help",
+    ),
+    (
+        &["transfers", "old.txt"],
+        "transfers expects NEW, see jugfjord transfers --help",
+    ),
+    (
+        &["transfers", "old.txt", "new.txt", "x.txt"],
+        "transfers expects no further file, found 'x.txt', see jugfjord transfers --help",
+    ),
+    (
+        &["transfers", "-", "-"],
+        "transfers expects - once, see jugfjord transfers --help",
+    ),
+    (
+        &["transfers", "old.txt", "--after", "new.txt"],
+        "transfers has no option '--after', see jugfjord transfers --help",
     ),
 ];
 

@@ -16,6 +16,9 @@ mod showing;
 mod showing_marks;
 mod streams;
 mod terminal;
+mod transfers;
+mod transfers_pages;
+mod transfers_words;
 
 /// Random numbers, racks, lists and plans, as the tests of the library have them.
 #[allow(dead_code)]

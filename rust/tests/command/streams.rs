@@ -74,12 +74,13 @@ fn a_read_that_fails_in_the_midst_gives_no_plan() {
 }
 
 /// Command lines that print something.
-const PRINTING: [&str; 8] = [
+const PRINTING: [&str; 9] = [
     "plan list.txt",
     "plan list.txt --after plan.txt",
     "records list.txt",
     "check plan.txt",
     "show plan.txt",
+    "transfers plan.txt plan.txt",
     "--help",
     "plan --help",
     "--version",

@@ -6,7 +6,7 @@ use std::os::unix::ffi::OsStrExt;
 use crate::arguments::Arguments;
 use crate::failure::Failure;
 use crate::words::shown;
-use crate::{plan_file, planning, show};
+use crate::{plan_file, planning, show, transfers};
 
 /// One command: how it is used, and what does it.
 pub struct Command {
@@ -37,7 +37,7 @@ impl Command {
     }
 }
 
-const COMMANDS: [Command; 4] = [
+const COMMANDS: [Command; 5] = [
     Command {
         name: "plan",
         uses: &[
@@ -72,10 +72,18 @@ const COMMANDS: [Command; 4] = [
     Command {
         name: "show",
         uses: &[("PLAN", "print a plan for people, by film and by disk")],
-        more: &[SHOWN],
+        more: &[SHOWN, COLOURS],
         options: &[],
         file_options: &[],
         run: show::show,
+    },
+    Command {
+        name: "transfers",
+        uses: &[("OLD NEW", "print what to copy from plan to plan, by round")],
+        more: &[TRANSFERS, COLOURS],
+        options: &[],
+        file_options: &[],
+        run: transfers::transfers,
     },
 ];
 
@@ -83,7 +91,19 @@ const SHOWN: &str = "\
 A shelf film is one that nobody is expected to watch. A copy without viewers is
 shown as DISK:shelf. A shelf film that found no slot has 'no slot' under 'left'.
 A copy with * behind it need not be copied, since its disk held the film before.
+";
 
+const TRANSFERS: &str = "\
+OLD and NEW are plan texts of one rack of up to 8 disks. A copy of the new plan
+is to be loaded where the old plan has not its film on the same disk. It comes
+from the lowest disk that has the film in the old plan, else from the loader. In
+a round each disk and the loader take part in at most one transfer. Marks in the
+texts do not matter.
+Free slots are not looked at: an old copy has to stay until the last round that
+copies from it.
+";
+
+const COLOURS: &str = "\
 On a terminal bold and colour are used, unless NO_COLOR is set and not empty or
 TERM is dumb.
 ";
@@ -111,7 +131,8 @@ equal disks alone.
 const STATUSES: &str = "\
 Exit status:
   0  done
-  1  refused: the list cannot be planned, or the text is no plan text
+  1  refused: the list cannot be planned, a text is no plan text, or two plan
+     texts are not of one rack of up to 8 disks
   2  not done: wrong usage, a file that cannot be read or is no list file,
      or output that cannot be written
 With 1 and 2 standard error has one line that says why.

@@ -2,7 +2,7 @@
 
 /// All was done.
 pub const DONE: i32 = 0;
-/// The list cannot be planned, or the text is no plan text.
+/// The list cannot be planned, a text is no plan text, or two texts are not of one small rack.
 pub const REFUSED: i32 = 1;
 /// It could not be done: usage, input or output.
 pub const NOT_DONE: i32 = 2;

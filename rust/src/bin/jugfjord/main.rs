@@ -1,5 +1,5 @@
-//! The command `jugfjord`: plans list files, and checks and shows plan texts, by the proved
-//! library.
+//! The command `jugfjord`: plans list files, checks and shows plan texts, and says what to copy
+//! from one plan to another, by the proved library.
 //!
 //! A subcommand reads all of its input, then answers all of its output or a failure. So nothing
 //! is printed before all is known.
@@ -19,6 +19,7 @@ mod plan_file;
 mod planning;
 mod show;
 mod standard;
+mod transfers;
 mod words;
 
 use std::env;

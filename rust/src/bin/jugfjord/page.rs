@@ -103,3 +103,18 @@ pub fn counted(number: impl Into<u64>, thing: &str) -> String {
         number => format!("{number} {thing}s"),
     }
 }
+
+/// The parts with commas between them, on as many lines as they need.
+pub fn in_lines(parts: impl Iterator<Item = String>) -> String {
+    let mut lines: Vec<String> = Vec::new();
+    for part in parts {
+        match lines.last_mut() {
+            // A comma may stand behind the part too.
+            Some(line) if line.len() + ", ".len() + part.len() < WIDTH => {
+                *line += &format!(", {part}");
+            }
+            _ => lines.push(part),
+        }
+    }
+    lines.join(",\n")
+}

@@ -42,9 +42,14 @@ impl<'a> PlanFile<'a> {
         })
     }
 
+    /// The first line of the text, without its end.
+    pub fn first_line(&self) -> &[u8] {
+        first_line(&self.text)
+    }
+
     /// What the first line of an accepted text has in its brackets: the rack.
     fn first_form(&self) -> String {
-        let line = first_line(&self.text);
+        let line = self.first_line();
         let inner = line
             .strip_prefix(b"(")
             .and_then(|line| line.strip_suffix(b")"));
