@@ -166,6 +166,17 @@ fn nothing_to_copy_is_said() {
     }
 }
 
+#[test]
+fn the_example_in_the_formats_is_right() {
+    let formats = include_str!("../../../docs/FORMAT.md");
+    let mut parts = formats.split("```\n");
+    let mut part = |first: &str| parts.find(|part| part.starts_with(first)).expect("a part");
+    let (old, new) = (part("(rack 2 3 9)\n"), part("(rack 2 3 9)\n"));
+    let page = part("4 copies to load");
+    assert_ne!(old, new);
+    assert_eq!(run(old, new).printed(), page);
+}
+
 /// The text of a plan of disks with one slot, by the film of each.
 fn one_slot_each(films: &[u32]) -> String {
     let count = films.len();
