@@ -8,16 +8,17 @@ mod timing;
 use std::hint::black_box;
 
 use inputs::{Input, RackPair, TextPair};
-use jugfjord::ffi::Planned;
+use jugfjord::ffi::{Planned, Transferred};
 use jugfjord::rack::{records, Disk};
 use jugfjord::reference::plan::Plan;
-use jugfjord::reference::{fast_reader, fast_transfers, fast_writer, rolling};
+use jugfjord::reference::{self, fast_reader, fast_transfers, fast_writer, rolling};
 use jugfjord::tables::{Entry, LentTables, OwnTables};
-use jugfjord::transfers::{Transfer, ENDS, MOST_TRANSFERS};
+use jugfjord::transfers::{CountRow, Transfer, ENDS, MOST_TRANSFERS};
 use jugfjord::wrap;
 use timing::{compare, Comparison};
 
 type Planner = fn(&[Disk], &[u8], LentTables) -> Planned;
+type Finder = fn(&[u8], &[u8], &mut [Transfer], &mut [CountRow]) -> Transferred;
 
 fn main() {
     println!("planning: library, Rust, ratio");
@@ -45,7 +46,11 @@ fn main() {
     }
     println!("256 transfers, 8 disks of 32 slots: library, Rust, ratio");
     for pair in inputs::text_pairs() {
-        show_time(pair.name, &find_both(&pair));
+        println!("  {}", pair.name);
+        let fast = find_both(&pair, fast_transfers::transfers);
+        show_time("  fast Rust, with sets as bits", &fast);
+        let plain = find_both(&pair, reference::transfers::transfers);
+        show_time("  plain, slow Rust by the words of 02", &plain);
     }
 }
 
@@ -123,12 +128,12 @@ fn read_both(plan: &Plan, tables: &OwnTables, text: &[u8]) -> Comparison {
 }
 
 /// Checks that both find the same transfers, as many as there may be, then times them.
-fn find_both(pair: &TextPair) -> Comparison {
+fn find_both(pair: &TextPair, rival: Finder) -> Comparison {
     let TextPair { old, new, .. } = pair;
     let (mut our_list, mut our_counts) = ([Transfer::default(); MOST_TRANSFERS], [[7; ENDS]; ENDS]);
     let (mut their_list, mut their_counts) = (our_list, our_counts);
     let found = wrap::transfers(old, new, &mut our_list, &mut our_counts);
-    let rivals = fast_transfers::transfers(old, new, &mut their_list, &mut their_counts);
+    let rivals = rival(old, new, &mut their_list, &mut their_counts);
     assert_eq!(found, rivals);
     assert_eq!((found.number, found.rounds), (0, pair.rounds));
     assert_eq!(found.transfers as usize, MOST_TRANSFERS);
@@ -137,7 +142,7 @@ fn find_both(pair: &TextPair) -> Comparison {
     let texts = || (black_box(&old[..]), black_box(&new[..]));
     compare(
         || wrap::transfers(texts().0, texts().1, &mut our_list, &mut our_counts),
-        || fast_transfers::transfers(texts().0, texts().1, &mut their_list, &mut their_counts),
+        || rival(texts().0, texts().1, &mut their_list, &mut their_counts),
     )
 }
 
