@@ -99,8 +99,8 @@ is to be loaded where the old plan has not its film on the same disk. It comes
 from the lowest disk that has the film in the old plan, else from the loader. In
 a round each disk and the loader take part in at most one transfer. Marks in the
 texts do not matter.
-Free slots are not looked at: an old copy has to stay until the last round that
-copies from it.
+The schedule does not look at free slots: the person who loads the rack has to
+keep an old copy on its disk until the last round that copies from it.
 ";
 
 const COLOURS: &str = "\
