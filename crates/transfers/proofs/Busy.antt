@@ -1,5 +1,5 @@
 -- The table of busy rounds: what it says of an end, and one transfer more in it.
-use mathlib.Core.Path.{_≡_, refl, sym, ap, ap₂, _∙_}
+use mathlib.Core.Path.{_≡_, refl, sym, ap, ap₂, subst, _∙_}
 use mathlib.Core.Bool.{Bool, true, false, cond, not, _&&_, _||_}
 use mathlib.Core.List.{List, [], _∷_, _++_}
 use Prim.Native.Nat.{ℕ, zero, suc, _+_, _-_, _*_, _≤_, _<_}
@@ -13,7 +13,7 @@ use Rattle.placement.proofs.Tests.{by-test}
 use Rattle.placement.proofs.Conjunctions.{cond-true, cond-false, and-holds}
 use Rattle.transfers.specs.Schedule.{Transfer, takesPart, busyIn, bothFree, earliestFrom}
 use Rattle.transfers.specs.Counts.{ends}
-use Rattle.transfers.specs.Keys.{rowLength, busyPlaces, flag, BusyTable}
+use Rattle.transfers.specs.Keys.{rowLength, busyPlaces, flag, BusyTable, BusyTo}
 
 -- Disjunctions.
 or-false : (b : Bool) → (b || false) ≡ b
@@ -27,6 +27,11 @@ or-true false = refl
 or-assoc : (a b c : Bool) → ((a || b) || c) ≡ (a || (b || c))
 or-assoc true b c = refl
 or-assoc false b c = refl
+
+-- A flag is 1 where the test holds.
+flag-one : (b : Bool) → flag b ≡ 1 → b ≡ true
+flag-one true e = refl
+flag-one false e = absurd (omega (arith, e))
 
 -- A flag is 0 where the test fails.
 flag-free : (b : Bool) → eqb (flag b) 0 ≡ not b
@@ -60,6 +65,23 @@ module _ (n r : ℕ) (less : r < n) (placed : List Transfer) (source destination
       ap (λ (k : ℕ). earliestFrom k placed source destination (suc r)) tries
       ∙ cond-false (bothFree placed source destination (suc r)) _ _ busy
       ∙ ap (λ (k : ℕ). earliestFrom (n - (r + 1)) placed source destination (suc k)) (sym (add-one r))
+
+-- Rounds in which the source is busy are passed.
+pub earliest-passed :
+    (busy : List ℕ) (placed : List Transfer) → BusyTable busy placed → (n source destination : ℕ) → source < ends → n ≤ rowLength
+    → (k : ℕ) → k ≤ n → BusyTo busy source k → earliestFrom n placed source destination 1 ≡ earliestFrom (n - k) placed source destination (suc k)
+earliest-passed busy placed t n source destination s few zero up ones =
+    ap (λ (m : ℕ). earliestFrom m placed source destination 1) (let same : n ≡ n - 0 = omega arith in same)
+earliest-passed busy placed t n source destination s few (suc k) up ones =
+    earliest-passed busy placed t n source destination s few k (omega arith) (λ r h. ones r (omega arith))
+    ∙ subst (λ (m : ℕ). earliestFrom (n - k) placed source destination (suc k) ≡ earliestFrom (n - m) placed source destination (suc m)) (add-one k)
+    (earliest-next n k (omega arith) placed source destination not-free)
+  where
+    taken : busyIn placed source (suc k) ≡ true
+    taken = flag-one (busyIn placed source (suc k)) (sym (t .rows source k s (omega arith)) ∙ ones k (omega arith))
+
+    not-free : bothFree placed source destination (suc k) ≡ false
+    not-free = ap (λ (b : Bool). not b && not (busyIn placed destination (suc k))) taken
 
 -- Behind all n rounds it is the next one.
 pub earliest-none : (n r : ℕ) (placed : List Transfer) (source destination : ℕ) → r ≡ n → n + 1 ≡ earliestFrom (n - r) placed source destination (suc r)

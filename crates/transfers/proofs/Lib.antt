@@ -34,3 +34,5 @@ pub mod StoredKeys
 pub mod ReadSteps
 pub mod TextsSteps
 pub mod RefusedAnswers
+pub mod Noting
+pub mod FullRounds

@@ -59,6 +59,28 @@ pub record BusyTable (busy : List ℕ) (placed : List Transfer) : Type 0 where
   pub wide : length busy ≡ busyPlaces
   pub rows : (end r : ℕ) → end < ends → r < rowLength → getD busy (end * rowLength + r) 0 ≡ flag (busyIn placed end (suc r))
 
+-- An end is busy in the first n rounds.
+abbrev pub BusyTo : (busy : List ℕ) → (end n : ℕ) → Type 0
+BusyTo busy end n = (r : ℕ) → r < n → getD busy (end * rowLength + r) 0 ≡ 1
+
+-- Rounds that are known to be busy at an end: so many from the first on, at most n, as the table says.
+pub record FullTable (busy full : List ℕ) (n : ℕ) : Type 0 where
+  pub wide : length full ≡ ends
+  pub few : (end : ℕ) → end < ends → getD full end 0 ≤ n
+  pub ones : (end : ℕ) → end < ends → BusyTo busy end (getD full end 0)
+
+-- No copy has the film.
+abbrev pub NoneOf : (film : ℕ) → List StoredCopy → Type 0
+NoneOf film cs = Each (λ (c : StoredCopy). c .film ≡ film → ⊥) cs
+
+-- Films are noted by their remainders: where nothing is noted, no copy has the film.
+abbrev pub notedPlaces : ℕ
+notedPlaces = 4096
+
+pub record Noted (noted : List ℕ) (cs : List StoredCopy) : Type 0 where
+  pub wide : length noted ≡ notedPlaces
+  pub none : (film : ℕ) → getD noted (film % notedPlaces) 0 ≡ 0 → NoneOf film cs
+
 -- A round is the earliest of the first n where both ends are free, or the one behind them, for all transfers that the table says.
 abbrev pub EarliestFor : (busy : List ℕ) → (source destination n round : ℕ) → Type 0
 EarliestFor busy source destination n round =

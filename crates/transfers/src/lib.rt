@@ -11,7 +11,7 @@ pub use answer::TransfersAnswer;
 use count::count_transfers;
 use count::put_rows;
 use refusal::Refusal;
-use schedule::transfers_between;
+use schedule::transfers_noted;
 use texts::read_texts;
 ghost use mathlib.Core.Path.{_≡_};
 ghost use mathlib.Core.List.{List, [], _++_};
@@ -22,7 +22,7 @@ ghost use Rattle.placement.specs.Tables.{written};
 ghost use Rattle.transfers.specs.Counts.{ends};
 ghost use Rattle.transfers.specs.Transfers.{textsVerdict};
 ghost use Rattle.transfers.specs.TransfersPromise.{TransfersPromise, CountsPromise, CountedPromise};
-ghost use Rattle.transfers.specs.Keys.{rowLength, BusyTable, WorkedOut};
+ghost use Rattle.transfers.specs.Keys.{rowLength, BusyTable, FullTable, notedPlaces, WorkedOut};
 ghost use Rattle.transfers.specs.Answers.{transferNumbers};
 
 // Works out the transfers of two texts, with space to work in.
@@ -34,21 +34,25 @@ fn work_out_with(
     newrack: &mut [u64],
     oldkeys: &mut [u64],
     newkeys: &mut [u64],
+    noted: &mut [u8],
     busy: &mut [u8],
+    full: &mut [u64],
 ) -> TransfersAnswer
     requires { ⌜ (length (now oldrack) ≡ mostDisks) × (length (now oldkeys) ≡ rowLength) ⌝ }
     requires { ⌜ (length (now newrack) ≡ mostDisks) × (length (now newkeys) ≡ rowLength) ⌝ }
-    requires { ⌜ (length (now entries) ≡ rowLength) × BusyTable (now busy) [] ⌝ }
+    requires { ⌜ (length (now entries) ≡ rowLength) × BusyTable (now busy) [] × (length (now noted) ≡ notedPlaces) × FullTable (now busy) (now full) 0 ⌝ }
     ensures { λ r. ⌜ WorkedOut (textsVerdict (now (old .entry)) (now (new .entry))) (now (entries .exit)) (transferNumbers r) ⌝ }
 {
     let read = read_texts(old, new, oldrack, newrack, oldkeys, newkeys);
     match read {
         TextRead::Declined(refusal) => TransfersAnswer::Refused(refusal),
-        TextRead::Stored { first, second } => transfers_between(
+        TextRead::Stored { first, second } => transfers_noted(
             &oldkeys[..first],
+            noted,
             &newkeys[..second],
             entries,
             busy,
+            full,
         ),
     }
 }
@@ -62,7 +66,9 @@ fn work_out(old: &[u8], new: &[u8], entries: &mut [u64]) -> TransfersAnswer
     let mut newrack = [0u64; 64];
     let mut oldkeys = [0u64; 256];
     let mut newkeys = [0u64; 256];
+    let mut noted = [0u8; 4096];
     let mut busy = [0u8; 2304];
+    let mut full = [0u64; 9];
     work_out_with(
         old,
         new,
@@ -71,7 +77,9 @@ fn work_out(old: &[u8], new: &[u8], entries: &mut [u64]) -> TransfersAnswer
         &mut newrack,
         &mut oldkeys,
         &mut newkeys,
+        &mut noted,
         &mut busy,
+        &mut full,
     )
 }
 

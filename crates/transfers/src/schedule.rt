@@ -2,9 +2,11 @@
 use crate::answer::TransfersAnswer;
 use crate::rounds::earliest;
 use crate::rounds::make_busy;
-use crate::stored::is_stored;
+use crate::rounds::next_full;
 use crate::stored::larger;
-use crate::stored::source_of;
+use crate::stored::note_films;
+use crate::stored::source_for;
+use crate::stored::stored_already;
 ghost use mathlib.Core.Path.{_≡_};
 ghost use mathlib.Core.List.{[], map};
 ghost use Prim.Native.Nat.{_+_, _≤_, _<_};
@@ -12,7 +14,7 @@ ghost use lib.ListN.{length};
 ghost use Rattle.placement.specs.WellFormed.{Each};
 ghost use Rattle.transfers.specs.Schedule.{transfer, schedule as scheduleOf, roundsOf};
 ghost use Rattle.transfers.specs.Transfers.{transferEntry, transferIn};
-ghost use Rattle.transfers.specs.Keys.{storedIn, CopyFits, TransferFits, rowLength, busyPlaces, BusyTable, PlacedNext, EntriesOf, Loaded, Outcome};
+ghost use Rattle.transfers.specs.Keys.{storedIn, CopyFits, TransferFits, rowLength, busyPlaces, BusyTable, FullTable, notedPlaces, Noted, PlacedNext, EntriesOf, Loaded, Outcome};
 ghost use Rattle.transfers.specs.Answers.{transferNumbers};
 
 // The entry of a transfer.
@@ -24,44 +26,71 @@ fn entry_of(source: u64, destination: u64, film: u64, round: u64) -> u64
 }
 
 // The entry of the transfer of a copy behind n others, whose ends are busy in its round from then on.
-fn place(key: u64, old: &[u64], busy: &mut [u8], n: usize) -> u64
+fn place(key: u64, old: &[u64], noted: &[u8], busy: &mut [u8], full: &mut [u64], n: usize) -> u64
     requires { ⌜ CopyFits (storedIn key) × Each CopyFits (map storedIn (now old)) × (n < rowLength) × (length (now busy) ≡ busyPlaces) ⌝ }
+    requires { ⌜ Noted (now noted) (map storedIn (now old)) × FullTable (now busy) (now full) n ⌝ }
     ensures { λ r. ⌜ PlacedNext (map storedIn (now (old .entry))) (storedIn key) n (now (busy .entry)) (now (busy .exit)) r ⌝ }
+    ensures { λ r. ⌜ FullTable (now (busy .exit)) (now (full .exit)) (n + 1) ⌝ }
 {
     let film = key % 16777216;
     let destination = key / 16777216;
-    let source = source_of(film, old);
-    let round = earliest(busy, source as usize, destination as usize, n);
+    let source = source_for(film, old, noted);
+    let from = full[source as usize];
+    let round = earliest(
+        busy,
+        source as usize,
+        destination as usize,
+        from as usize,
+        n,
+    );
     make_busy(busy, source as usize, round);
     make_busy(busy, destination as usize, round);
+    full[source as usize] = next_full(from, round as u64);
     entry_of(source, destination, film, round as u64)
 }
 
 // Places the transfer of a copy behind n others unless the old plan has the copy, and answers how many there are then.
-fn load(key: u64, old: &[u64], entries: &mut [u64], busy: &mut [u8], n: usize) -> usize
+fn load(
+    key: u64,
+    old: &[u64],
+    noted: &[u8],
+    entries: &mut [u64],
+    busy: &mut [u8],
+    full: &mut [u64],
+    n: usize,
+) -> usize
     requires { ⌜ CopyFits (storedIn key) × Each CopyFits (map storedIn (now old)) × (n < length (now entries)) × (length (now entries) ≤ rowLength)
         × (length (now busy) ≡ busyPlaces) ⌝ }
+    requires { ⌜ Noted (now noted) (map storedIn (now old)) × FullTable (now busy) (now full) n ⌝ }
     ensures { λ r. ⌜ Loaded (map storedIn (now (old .entry))) (storedIn key) n (now (entries .entry)) (now (busy .entry)) r (now (entries .exit)) (now (busy .exit)) ⌝ }
-    ensures { λ r. ⌜ r ≤ n + 1 ⌝ }
+    ensures { λ r. ⌜ (r ≤ n + 1) × FullTable (now (busy .exit)) (now (full .exit)) r ⌝ }
 {
-    if is_stored(key, old) {
+    if stored_already(key, old, noted) {
         return n;
     }
-    entries[n] = place(key, old, busy, n);
+    entries[n] = place(key, old, noted, busy, full, n);
     n + 1
 }
 
 // Places the transfers of all copies that the old plan lacks, and answers how many there are: those of the copies before `i` are placed.
-fn schedule(old: &[u64], new: &[u64], entries: &mut [u64], busy: &mut [u8]) -> usize
+fn schedule(
+    old: &[u64],
+    noted: &[u8],
+    new: &[u64],
+    entries: &mut [u64],
+    busy: &mut [u8],
+    full: &mut [u64],
+) -> usize
     requires { ⌜ Each CopyFits (map storedIn (now old)) × Each CopyFits (map storedIn (now new)) × (length (now new) ≤ length (now entries))
         × (length (now entries) ≤ rowLength) × BusyTable (now busy) [] ⌝ }
+    requires { ⌜ Noted (now noted) (map storedIn (now old)) × FullTable (now busy) (now full) 0 ⌝ }
     ensures { λ r. ⌜ EntriesOf r (now (entries .exit)) (scheduleOf (map storedIn (now (old .entry))) (map storedIn (now (new .entry)))) ⌝ }
     ensures { λ r. ⌜ r ≤ length (now (new .entry)) ⌝ }
 {
     let mut n = 0;
     let mut i = 0;
     while i < new.len() {
-        n = load(new[i], old, entries, busy, n);
+        n = load(new[i], old, noted, entries, busy, full, n);
         i += 1;
     }
     n
@@ -81,20 +110,41 @@ fn most_round(entries: &[u64]) -> u64
 }
 
 // The transfers from some copies to others, with their number and that of their rounds.
-pub(crate) fn transfers_between(
+fn transfers_between(
     old: &[u64],
+    noted: &[u8],
     new: &[u64],
     entries: &mut [u64],
     busy: &mut [u8],
+    full: &mut [u64],
 ) -> TransfersAnswer
     requires { ⌜ Each CopyFits (map storedIn (now old)) × Each CopyFits (map storedIn (now new)) × (length (now new) ≤ length (now entries))
         × (length (now entries) ≤ rowLength) × BusyTable (now busy) [] ⌝ }
+    requires { ⌜ Noted (now noted) (map storedIn (now old)) × FullTable (now busy) (now full) 0 ⌝ }
     ensures { λ r. ⌜ Outcome (scheduleOf (map storedIn (now (old .entry))) (map storedIn (now (new .entry)))) (now (entries .exit)) (transferNumbers r) ⌝ }
 {
-    let n = schedule(old, new, entries, busy);
+    let n = schedule(old, noted, new, entries, busy, full);
     let rounds = most_round(&entries[..n]);
     TransfersAnswer::Scheduled {
         transfers: n as u32,
         rounds: rounds as u32,
     }
+}
+
+// The same, with the films of the old copies noted first.
+pub(crate) fn transfers_noted(
+    old: &[u64],
+    noted: &mut [u8],
+    new: &[u64],
+    entries: &mut [u64],
+    busy: &mut [u8],
+    full: &mut [u64],
+) -> TransfersAnswer
+    requires { ⌜ Each CopyFits (map storedIn (now old)) × Each CopyFits (map storedIn (now new)) × (length (now new) ≤ length (now entries))
+        × (length (now entries) ≤ rowLength) × BusyTable (now busy) [] ⌝ }
+    requires { ⌜ (length (now noted) ≡ notedPlaces) × FullTable (now busy) (now full) 0 ⌝ }
+    ensures { λ r. ⌜ Outcome (scheduleOf (map storedIn (now (old .entry))) (map storedIn (now (new .entry)))) (now (entries .exit)) (transferNumbers r) ⌝ }
+{
+    note_films(old, noted);
+    transfers_between(old, noted, new, entries, busy, full)
 }

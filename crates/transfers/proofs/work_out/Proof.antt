@@ -5,7 +5,8 @@ use mathlib.Core.List.{[]}
 use Prim.Native.Nat.{ℕ, _+_, _*_}
 use native.Mathlib.Omega.{arith}
 use lib.ListN.{replicate, length-replicate, getD-replicate}
-use Rattle.transfers.specs.Keys.{rowLength, busyPlaces, BusyTable}
+use Rattle.transfers.specs.Counts.{ends}
+use Rattle.transfers.specs.Keys.{rowLength, busyPlaces, BusyTable, FullTable}
 use Rattle.transfers.proofs.work_out.Statement.{statement}
 use Rattle.transfers.proofs.work_out.Tie as tie
 
@@ -16,13 +17,24 @@ free-table = record {
   rows = λ end r few within. getD-replicate {A = ℕ} busyPlaces (end * rowLength + r) 0 0 (omega (arith, few, within));
 }
 
+-- And none is known to be.
+no-rounds : FullTable (replicate busyPlaces 0) (replicate ends 0) 0
+no-rounds = record {
+  wide = refl;
+  few = λ end few. omega (arith, getD-replicate {A = ℕ} ends end 0 0 few);
+  ones = λ end few r less. absurd (omega (arith, less, getD-replicate {A = ℕ} ends end 0 0 few));
+}
+
 work-out-with-requires : tie.Need-work-out-with-requires
-work-out-with-requires c κs = ((refl, refl), ((refl, refl), (c .before .before .before .before .before .before .before .before .before .pre, free-table)))
+work-out-with-requires c κs =
+    ((refl, refl), ((refl, refl), (c .before .before .before .before .before .before .before .before .before .before .before .pre, free-table, refl, no-rounds)))
 
 pub work-out-spec : {M : Type 1} → statement M
 work-out-spec =
     tie.close
     (tie.spec
+    (λ c. search needs)
+    (λ c. search needs)
     (λ c. search needs)
     (λ c. search needs)
     (λ c. search needs)

@@ -20,7 +20,7 @@ module _ (c : tie.After-known-told2) where
   at-read = c .before .before .before .before .before .before .before .before .before .before .before
 
   abbrev start : tie.Start
-  start = at-read .before .before .before .before .before .before .before .before .before .before .before .before .before
+  start = at-read .before .before .before .before .before .before .before .before .before .before .before .before .before .before .before
 
   abbrev oldkeys : List ℕ
   oldkeys = at-read .read-texts .last .1 .1 .1 .1 .0
@@ -39,42 +39,45 @@ module _ (c : tie.After-known-told2) where
       both-as (textsVerdict (start .args .old .now) (start .args .new .now)) oldkeys newkeys m n
       (subst (StoredTexts (textsVerdict (start .args .old .now) (start .args .new .now)) oldkeys newkeys) (ap textRead (c .before .read2 .given .1)) (at-read .read-texts .ensures))
 
-slice-reshare-prefix-transfers-between : tie.Need-slice-reshare-prefix-transfers-between
-slice-reshare-prefix-transfers-between c = plans-read c .oldRoom
+slice-reshare-prefix-transfers-noted : tie.Need-slice-reshare-prefix-transfers-noted
+slice-reshare-prefix-transfers-noted c = plans-read c .oldRoom
 
-slice-aggregate-transfers-between : tie.Need-slice-aggregate-transfers-between
-slice-aggregate-transfers-between c = sym (length-take-le _ _ (plans-read (c .before) .oldRoom))
+slice-aggregate-transfers-noted : tie.Need-slice-aggregate-transfers-noted
+slice-aggregate-transfers-noted c = sym (length-take-le _ _ (plans-read (c .before) .oldRoom))
 
-slice-reshare-prefix-transfers-between-2 : tie.Need-slice-reshare-prefix-transfers-between-2
-slice-reshare-prefix-transfers-between-2 c = plans-read (c .before) .newRoom
+slice-reshare-prefix-transfers-noted-2 : tie.Need-slice-reshare-prefix-transfers-noted-2
+slice-reshare-prefix-transfers-noted-2 c = plans-read (c .before .before) .newRoom
 
-slice-aggregate-transfers-between-2 : tie.Need-slice-aggregate-transfers-between-2
-slice-aggregate-transfers-between-2 c = sym (length-take-le _ _ (plans-read (c .before .before) .newRoom))
+slice-aggregate-transfers-noted-2 : tie.Need-slice-aggregate-transfers-noted-2
+slice-aggregate-transfers-noted-2 c = sym (length-take-le _ _ (plans-read (c .before .before .before) .newRoom))
 
-transfers-between-requires : tie.Need-transfers-between-requires
-transfers-between-requires c κs =
-    let at-plan = c .before .before .before .before in
+transfers-noted-requires : tie.Need-transfers-noted-requires
+transfers-noted-requires c κs =
+    let at-plan = c .before .before .before .before .before .before in
     let a = start at-plan .args in
     let pre = start at-plan .pre in
     let r = plans-read at-plan in (
-      olds-fit (a .old .now) (a .new .now) (oldkeys at-plan) (newkeys at-plan) (m at-plan) (n at-plan) r,
-      news-fit (a .old .now) (a .new .now) (oldkeys at-plan) (newkeys at-plan) (m at-plan) (n at-plan) r,
-      omega (
-        arith,
-        length-take-le (n at-plan) (newkeys at-plan) (r .newRoom),
-        r .newRoom,
-        at-read at-plan .read-texts .kept .1 .1 .1 .1 .1 .0,
-        pre .1 .0 .1,
-        pre .1 .1 .0,
+      (
+        olds-fit (a .old .now) (a .new .now) (oldkeys at-plan) (newkeys at-plan) (m at-plan) (n at-plan) r,
+        news-fit (a .old .now) (a .new .now) (oldkeys at-plan) (newkeys at-plan) (m at-plan) (n at-plan) r,
+        omega (
+          arith,
+          length-take-le (n at-plan) (newkeys at-plan) (r .newRoom),
+          r .newRoom,
+          at-read at-plan .read-texts .kept .1 .1 .1 .1 .1 .0,
+          pre .1 .0 .1,
+          pre .1 .1 .0,
+        ),
+        omega (arith, pre .1 .1 .0),
+        pre .1 .1 .1,
       ),
-      omega (arith, pre .1 .1 .0),
-      pre .1 .1 .1,
+      (pre .1 .1 .2, pre .1 .1 .3),
     )
 
 returns : tie.Need-returns
 returns c =
     let at-read = c .before .before .before .before .before .before .before .before .before .before .before in
-    let a = at-read .before .before .before .before .before .before .before .before .before .before .before .before .before .args in
+    let a = at-read .before .before .before .before .before .before .before .before .before .before .before .before .before .before .before .args in
     let r = c .before .read .given .0 .0 in
     both-refused (textsVerdict (a .old .now) (a .new .now)) (at-read .read-texts .last .1 .1 .1 .1 .0) (at-read .read-texts .last .1 .1 .1 .1 .1 .0) (a .entries .now)
     (numberOf r) (secondOf r)
@@ -83,11 +86,11 @@ returns c =
 
 returns-2 : tie.Need-returns-2
 returns-2 c =
-    let at-made = c .before .before .before .before in
-    let at-plan = at-made .before .before .before .before .before in
+    let at-made = c .before .before .before .before .before .before .before .before in
+    let at-plan = at-made .before .before .before .before .before .before .before in
     let a = start at-plan .args in
-    both-worked (textsVerdict (a .old .now) (a .new .now)) (oldkeys at-plan) (newkeys at-plan) (at-made .transfers-between .last .1 .1 .0) (m at-plan) (n at-plan)
-    (transferNumbers (at-made .transfers-between .result)) (plans-read at-plan) (at-made .transfers-between .ensures)
+    both-worked (textsVerdict (a .old .now) (a .new .now)) (oldkeys at-plan) (newkeys at-plan) (at-made .transfers-noted .last .1 .1 .1 .0) (m at-plan) (n at-plan)
+    (transferNumbers (at-made .transfers-noted .result)) (plans-read at-plan) (at-made .transfers-noted .ensures)
 
 pub work-out-with-spec : {M : Type 1} → statement M
 work-out-with-spec =
@@ -96,16 +99,18 @@ work-out-with-spec =
     (λ c κs. search needs)
     (λ c. search needs)
     (λ c. search needs)
-    slice-reshare-prefix-transfers-between
-    slice-aggregate-transfers-between
-    slice-reshare-prefix-transfers-between-2
-    slice-aggregate-transfers-between-2
-    transfers-between-requires
+    slice-reshare-prefix-transfers-noted
+    slice-aggregate-transfers-noted
+    slice-reshare-prefix-transfers-noted-2
+    slice-aggregate-transfers-noted-2
+    transfers-noted-requires
     (λ c. search needs)
     (λ c. search needs)
     (λ c. search needs)
     (λ c. search needs)
     returns
+    (λ c. search needs)
+    (λ c. search needs)
     (λ c. search needs)
     (λ c. search needs)
     (λ c. search needs)

@@ -10,7 +10,7 @@ use lib.Dec.{eqb}
 use lib.ListN.{length, getD}
 use Rattle.transfers.specs.Schedule.{Transfer, bothFree, earliestFrom}
 use Rattle.transfers.specs.Keys.{rowLength, BusyTable}
-use Rattle.transfers.proofs.Busy.{places-free, earliest-found, earliest-next, earliest-none}
+use Rattle.transfers.proofs.Busy.{places-free, earliest-passed, earliest-found, earliest-next, earliest-none}
 use Rattle.transfers.proofs.rounds.earliest.Statement.{statement}
 use Rattle.transfers.proofs.rounds.earliest.Tie as tie
 
@@ -21,10 +21,10 @@ Passed busy source destination n r =
     → earliestFrom n placed source destination 1 ≡ earliestFrom (n - r) placed source destination (suc r)
 
 abbrev Inv-loop : tie.InvT-loop
-Inv-loop busy source destination n r₀ r = (r ≤ n) × Passed busy source destination n r
+Inv-loop busy source destination from n r₀ r = (r ≤ n) × Passed busy source destination n r
 
 abbrev μ-loop : tie.MeasureT-loop
-μ-loop busy source destination n r₀ r = n - r
+μ-loop busy source destination from n r₀ r = n - r
 
 -- The turn of a test, and what the test says of both ends.
 abbrev in-loop : tie.After-both-free Inv-loop μ-loop → tie.In-loop Inv-loop μ-loop
@@ -45,8 +45,12 @@ free-is c placed t =
 
 loop-holds : tie.Need-loop-holds Inv-loop μ-loop
 loop-holds c =
-    let n = c .before .args .n in
-    (omega arith, λ placed t. ap (λ (k : ℕ). earliestFrom k placed (c .before .args .source) (c .before .args .destination) 1) (let same : n ≡ n - 0 = omega arith in same))
+    let start = c .before in
+    let a = start .args in (
+      start .pre .1 .3,
+      λ placed t. earliest-passed (a .busy .now) placed t (a .n) (a .source) (a .destination) (start .pre .1 .0) (start .pre .1 .2) (a .from) (start .pre .1 .3)
+          (start .pre .1 .4),
+    )
 
 mul-both-free : tie.Need-mul-both-free Inv-loop μ-loop
 mul-both-free c = omega (arith, c .before .before .before .pre .1)

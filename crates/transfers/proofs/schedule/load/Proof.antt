@@ -31,29 +31,36 @@ entries-more n entries placed t entry room same e = record {
 
 returns : tie.Need-returns
 returns c =
-    let a = c .before .before .before .before .before .args in
-    let held : isStored (storedIn (a .key)) (map storedIn (a .old .now)) ≡ true = sym (c .before .is-stored .ensures) ∙ c .if1 .taken in (
-      λ placed p. subst (λ (b : Bool). Placed (a .n) (a .entries .now) (a .busy .now) (cond b placed (placedWith (map storedIn (a .old .now)) (storedIn (a .key)) placed)))
+    let start = c .before .before .before .before .before .before .before in
+    let a = start .args in
+    let held : isStored (storedIn (a .key)) (map storedIn (a .old .now)) ≡ true = sym (c .before .stored-already .ensures) ∙ c .if1 .taken in (
+      λ placed p.
+          subst (λ (b : Bool). Placed (a .n) (a .entries .now) (a .busy .now) (cond b placed (placedWith (map storedIn (a .old .now)) (storedIn (a .key)) placed)))
           (sym held) p,
-      omega arith,
+      (omega arith, start .pre .1 .1),
     )
+
+place-requires : tie.Need-place-requires
+place-requires c κs =
+    let pre = c .before .before .before .before .before .before .before .before .before .pre in
+    ((pre .0 .0, pre .0 .1, omega (arith, pre .0 .2, pre .0 .3), pre .0 .4), pre .1)
 
 returns-2 : tie.Need-returns-2
 returns-2 c =
-    let at-place = c .before .before in
-    let at-stored = at-place .before .before .before in
-    let a = c .before .before .before .before .before .before .before .before .before .args in
-    let start = c .before .before .before .before .before .before .before .before .before in
-    let lacks : isStored (storedIn (a .key)) (map storedIn (a .old .now)) ≡ false = sym (at-stored .is-stored .ensures) ∙ at-place .before .before .if1 .left in (
+    let at-place = c .before .before .before .before in
+    let at-else = at-place .before .before .before in
+    let start = at-else .before .before .before .before .before .before .before in
+    let a = start .args in
+    let lacks : isStored (storedIn (a .key)) (map storedIn (a .old .now)) ≡ false = sym (at-else .before .stored-already .ensures) ∙ at-else .if1 .left in (
       λ placed p.
-          let next = at-place .place .ensures placed (sym (p .inFront .number)) (p .table) in
-          subst (λ (b : Bool). Placed (a .n + 1) (set (a .entries .now) (a .n) (at-place .place .result)) (at-place .place .last .1 .1 .0)
+          let next = at-place .place .ensures .0 placed (sym (p .inFront .number)) (p .table) in
+          subst (λ (b : Bool). Placed (a .n + 1) (set (a .entries .now) (a .n) (at-place .place .result)) (at-place .place .last .1 .1 .1 .0)
           (cond b placed (placedWith (map storedIn (a .old .now)) (storedIn (a .key)) placed))) (sym lacks)
           (record {
-            inFront = entries-more (a .n) (a .entries .now) placed (transferFor (map storedIn (a .old .now)) placed (storedIn (a .key))) (at-place .place .result) (start .pre .2) (next .0) (p .inFront);
+            inFront = entries-more (a .n) (a .entries .now) placed (transferFor (map storedIn (a .old .now)) placed (storedIn (a .key))) (at-place .place .result) (start .pre .0 .2) (next .0) (p .inFront);
             table = next .1;
           }),
-      omega arith,
+      (omega arith, at-place .place .ensures .1),
     )
 
 pub load-spec : {M : Type 1} → statement M
@@ -62,7 +69,8 @@ load-spec =
     (tie.spec
     (λ c κs. search needs)
     returns
-    (λ c κs. search needs)
+    place-requires
+    (λ c. search needs)
     (λ c. search needs)
     (λ c. search needs)
     (λ c. search needs)

@@ -10,7 +10,7 @@ use lib.Seq.{take-all}
 use Rattle.transfers.specs.Stored.{StoredCopy, isStored}
 use Rattle.transfers.specs.Schedule.{Transfer, placeAll}
 use Rattle.transfers.specs.Schedule.{schedule as scheduleOf}
-use Rattle.transfers.specs.Keys.{storedIn, CopyFits, EntriesOf, Placed, placedWith}
+use Rattle.transfers.specs.Keys.{storedIn, CopyFits, EntriesOf, Placed, placedWith, FullTable}
 use Rattle.transfers.proofs.Mapped.{each-mapped, mapped-more}
 use Rattle.transfers.proofs.Placing.{place-append}
 use Rattle.transfers.proofs.schedule.schedule.Statement.{statement}
@@ -29,51 +29,66 @@ placed-more old new i less =
     ∙ place-append (map storedIn old) [] (map storedIn (take i new)) (storedIn (getD new i 0) ∷ []))
 
 abbrev Inv-loop : tie.InvT-loop
-Inv-loop old new entries₀ busy₀ n₀ i₀ entries busy n i =
-    (i ≤ length new) × (n ≤ i) × (length entries ≡ length entries₀) × (length busy ≡ length busy₀) × Placed n entries busy (placedTo old new i)
+Inv-loop old noted new entries₀ busy₀ full₀ n₀ i₀ entries busy full n i =
+    (i ≤ length new)
+    × (n ≤ i)
+    × (length entries ≡ length entries₀)
+    × (length busy ≡ length busy₀)
+    × Placed n entries busy (placedTo old new i)
+    × (length full ≡ length full₀)
+    × FullTable busy full n
 
 abbrev μ-loop : tie.MeasureT-loop
-μ-loop old new entries₀ busy₀ n₀ i₀ entries busy n i = length new - i
+μ-loop old noted new entries₀ busy₀ full₀ n₀ i₀ entries busy full n i = length new - i
+
+abbrev start-of : tie.At-loop Inv-loop μ-loop → tie.Start Inv-loop μ-loop
+start-of c = c .before .before .before .before .before .before .before
 
 loop-holds : tie.Need-loop-holds Inv-loop μ-loop
 loop-holds c =
-    let start = c .before .before .before .before in
-    (omega arith, omega arith, refl, refl, record { inFront = record { number = refl; front = refl }; table = start .pre .4 })
+    let pre = c .before .before .before .before .before .before .pre in
+    (omega arith, omega arith, refl, refl, record { inFront = record { number = refl; front = refl }; table = pre .0 .4 }, refl, pre .1 .1)
 
 load-requires : tie.Need-load-requires Inv-loop μ-loop
 load-requires c κs =
-    let at-turn = c .before .before .before in
+    let at-turn = c .before .before .before .before in
     let l = at-turn .before .loop in
-    let start = at-turn .before .before .before .before .before .before in
+    let start = start-of (at-turn .before) in
+    let pre = start .pre in
     let less = at-turn .loop-test .taken in (
-      each-mapped storedIn 0 CopyFits (start .args .new .now) (l .i) (start .pre .1) less,
-      start .pre .0,
-      omega (arith, less, l .inv .1, l .inv .2, start .pre .2),
-      omega (arith, l .inv .2, start .pre .3),
-      omega (arith, l .inv .3, start .pre .4 .wide),
+      (
+        each-mapped storedIn 0 CopyFits (start .args .new .now) (l .i) (pre .0 .1) less,
+        pre .0 .0,
+        omega (arith, less, l .inv .1, l .inv .2, pre .0 .2),
+        omega (arith, l .inv .2, pre .0 .3),
+        omega (arith, l .inv .3, pre .0 .4 .wide),
+      ),
+      (pre .1 .0, l .inv .6),
     )
 
 loop-again : tie.Need-loop-again Inv-loop μ-loop
 loop-again c =
-    let at-load = c .before .before .before .before in
-    let at-turn = at-load .before .before .before .before in
+    let at-load = c .before .before .before .before .before .before in
+    let at-turn = at-load .before .before .before .before .before in
     let l = at-turn .before .loop in
-    let start = at-turn .before .before .before .before .before .before in
+    let start = start-of (at-turn .before) in
     let less = at-turn .loop-test .taken in
     let old = start .args .old .now in
     let new = start .args .new .now in (
       omega arith,
-      omega (arith, at-load .load .ensures .1, l .inv .1),
-      at-load .load .kept .1 .1 .0 ∙ l .inv .2,
-      at-load .load .kept .1 .1 .1 .0 ∙ l .inv .3,
-      subst (λ (ts : List Transfer). Placed (at-load .load .result) (at-load .load .last .1 .1 .0) (at-load .load .last .1 .1 .1 .0) ts) (placed-more old new (l .i) less)
+      omega (arith, at-load .load .ensures .1 .0, l .inv .1),
+      at-load .load .kept .1 .1 .1 .0 ∙ l .inv .2,
+      at-load .load .kept .1 .1 .1 .1 .0 ∙ l .inv .3,
+      subst (λ (ts : List Transfer). Placed (at-load .load .result) (at-load .load .last .1 .1 .1 .0) (at-load .load .last .1 .1 .1 .1 .0) ts) (placed-more old new (l .i) less)
           (at-load .load .ensures .0 (placedTo old new (l .i)) (l .inv .4)),
+      at-load .load .kept .1 .1 .1 .1 .1 .0 ∙ l .inv .5,
+      at-load .load .ensures .1 .1,
     )
 
 returns : tie.Need-returns Inv-loop μ-loop
 returns c =
     let l = c .before .loop in
-    let a = c .before .before .before .before .before .before .args in (
+    let a = start-of (c .before) .args in (
       subst (λ (new : List ℕ). EntriesOf (l .n) (l .entries) (scheduleOf (map storedIn (a .old .now)) (map storedIn new)))
           (take-all (l .i) (a .new .now) (c .loop-test .left)) (l .inv .4 .inFront),
       omega (arith, l .inv .0, l .inv .1),
@@ -92,6 +107,7 @@ schedule-spec =
     (λ c. search needs)
     (λ c. search needs)
     loop-again
+    (λ c. search needs)
     (λ c. search needs)
     (λ c. search needs)
     returns)
