@@ -15,8 +15,9 @@ pub fn folder(old: &str, new: &str) -> Folder {
     folder
 }
 
-/// Film 1 is on two disks, film 2 has no viewers, and film 9 is left and on no disk.
-pub const OLD: &str = "(rack 3 3 9)
+/// Film 1 is on two disks, film 2 has no viewers, and film 9 is left and on no disk. Each disk has
+/// slots for its old and its new copies together.
+pub const OLD: &str = "(rack 3 4 9)
 (disk 1 (1 2) (2 0))
 (disk 2 (3 4) (1 1 held))
 (disk 3 (5 5))
@@ -24,7 +25,7 @@ pub const OLD: &str = "(rack 3 3 9)
 (served 12 8)
 ";
 /// Copies in an order of their own, one without viewers, and a mark that is wrong.
-pub const NEW: &str = "(rack 3 3 9)
+pub const NEW: &str = "(rack 3 4 9)
 (disk 1 (9 4) (3 1) (1 2))
 (disk 2 (5 3 held) (2 0) (3 1))
 (disk 3 (7 2) (2 3) (1 1))
@@ -147,14 +148,14 @@ round  film from the loader  films between disks
 #[test]
 fn nothing_to_copy_is_said() {
     let said = "nothing to copy: each disk has all its films already\n";
-    let other = "(rack 3 3 9)
+    let other = "(rack 3 4 9)
 (disk 1 (2 9))
 (disk 2 (1 0) (3 2))
 (disk 3)
 (left (1 1) (5 1))
 (served 11 2)
 ";
-    let empty = "(rack 3 3 9)\n(disk 1)\n(disk 2)\n(disk 3)\n(left)\n(served 0 0)\n";
+    let empty = "(rack 3 4 9)\n(disk 1)\n(disk 2)\n(disk 3)\n(left)\n(served 0 0)\n";
     for (old, new) in [
         (OLD, OLD),
         (OLD, other),
@@ -171,7 +172,7 @@ fn the_example_in_the_formats_is_right() {
     let formats = include_str!("../../../docs/FORMAT.md");
     let mut parts = formats.split("```\n");
     let mut part = |first: &str| parts.find(|part| part.starts_with(first)).expect("a part");
-    let (old, new) = (part("(rack 2 3 9)\n"), part("(rack 2 3 9)\n"));
+    let (old, new) = (part("(rack 2 4 9)\n"), part("(rack 2 4 9)\n"));
     let page = part("4 copies to load");
     assert_ne!(old, new);
     assert_eq!(run(old, new).printed(), page);
