@@ -8,8 +8,8 @@
  * file or calls anything but memcpy and memset.
  *
  * What a caller must keep:
- * - a pointer whose count is 1 or more is not NULL, is aligned for its type and is valid for its count: that many bytes or
- *   numbers can be read there, and written where it is not const;
+ * - a pointer whose count is 1 or more is not NULL, is aligned for its type and is valid for its count: that many bytes,
+ *   numbers, disks or rows of nine numbers can be read there, and written where it is not const;
  * - what one call is lent does not overlap, except that two const arguments may; no other thread writes to it during the call.
  * A pointer whose count is 0 may be NULL: nothing is read or written through it. NULL with 0 is an empty list, an empty text,
  * a rack without disks or a table without places.
@@ -20,10 +20,11 @@
  *
  * Tables: `copies` is the copy table, `left` the left table. An entry of either is one number. In the copy table its low 16 bits
  * are the film, the next 16 the mark and its high 32 the viewers; in the left table its low 32 bits are the film, which is at
- * most 65,535, and its high 32 the amount. `counts` has the number of copies of each disk. The disks stand by number, whatever
- * their slots: disk 1 has its copies from place 0 on, and each other disk from the place after the slots of all disks before it.
- * Planning and reading set the unused copy places to 0, and writing asks for that. JUGFJORD_MOST_COPIES, JUGFJORD_MOST_DISKS and
- * JUGFJORD_MOST_LEFT places are always enough.
+ * most 65,535, and its high 32 the amount. In planning, writing and reading `counts` has the number of copies of each disk; in
+ * `jugfjord_transfers` it is the table that is described there. The disks stand by number, whatever their slots: disk 1 has its
+ * copies from place 0 on, and each other disk from the place after the slots of all disks before it. Planning and reading set the
+ * unused copy places to 0, and writing asks for that. JUGFJORD_MOST_COPIES, JUGFJORD_MOST_DISKS and JUGFJORD_MOST_LEFT places are
+ * always enough.
  *
  * A copy with 0 viewers is a shelf copy. Planning takes the films of demand 0 in ascending number and stores each on the
  * lowest disk with a free slot, behind its other copies; with no free slot the film is left with amount 0. So an entry with
@@ -74,8 +75,8 @@ extern "C" {
 #define JUGFJORD_REFUSED_SPACE_TOO_SHORT 11    /* the space for the text is too short */
 #define JUGFJORD_REFUSED_DISKS_OUT_OF_RANGE 12 /* disks not 1 to 64, or of one slots not 1 to 32 or streams not 1 to 65,535 */
 #define JUGFJORD_REFUSED_RATIO_DIFFERS 13      /* the first disk whose ratio of streams to slots is not that of disk 1 */
-#define JUGFJORD_REFUSED_TOO_MANY_DISKS 14     /* more than 8 disks in the old or the new text, of transfers alone */
-#define JUGFJORD_REFUSED_FIRST_LINES_DIFFER 15 /* the first lines of the old and the new text, of transfers alone */
+#define JUGFJORD_REFUSED_TOO_MANY_DISKS 14     /* more than 8 disks in either text; given by jugfjord_transfers only */
+#define JUGFJORD_REFUSED_FIRST_LINES_DIFFER 15 /* the first lines of the two texts differ; given by jugfjord_transfers only */
 
 /* The entry of a film with its viewers or its amount, without a mark. The film is at most 65,535: as a copy, 65,544 would be
  * film 8 with mark 1. */
@@ -225,20 +226,25 @@ struct jugfjord_transferred {
     uint32_t rounds;    /* the largest round, 0 without transfers */
 };
 
-/* Finds the transfers that make a rack's new plan of its old one, and the rounds in which they run. There is one for each new
- * copy whose film the old plan has not on the same disk. Its source is the lowest disk that holds the film in the old plan, else
- * the loader, number 0. In one round every disk and the loader take part in at most one transfer. Transfers are placed by
- * ascending destination, then film, each in the earliest round, from 1, where both ends are free. With d the most transfers that
- * touch one disk or the loader, d at least 1, there are at most 2d - 1 rounds.
+/* Finds what to copy so that a rack with the old plan gets the copies of the new one, and in which round. There is a transfer for
+ * each new copy whose film the old plan has not on the same disk. Its source is the lowest disk that holds the film in the old
+ * plan, else the loader, number 0. In one round every disk and the loader take part in at most one transfer. Transfers are placed
+ * by ascending destination, then film number, each in the earliest round, from 1, where both ends are free. With d the most
+ * transfers that touch one disk or the loader, d at least 1, there are at most 2d - 1 rounds.
  *
  * A copy with 0 viewers is a copy, in the old plan and in the new. Viewers, left films and marks do not matter. The rack has up
  * to 8 disks, equal or mixed, and both texts have the same first line.
  *
- * `transfers` gets an entry for each transfer, in the order in which they were placed. An entry is one number: the film in its
- * bits 0 to 15, the source in 16 to 23, the destination in 24 to 31 and the round from bit 32 on; the functions above take it
- * apart. JUGFJORD_MOST_TRANSFERS entries are always enough. `counts` has nine rows of nine numbers: counts[source][destination]
- * becomes the number of transfers from the one to the other, and the sum over the table is the number of transfers. `rows` is the
- * number of rows lent, at least JUGFJORD_ENDS. Entries beyond the transfers and rows beyond the nine stay as they were.
+ * Copies that the new plan lacks are not listed: removing them is left to the person who loads the rack. The schedule does not
+ * look at free slots: an old copy has to stay on its disk until the last round that copies from it. On full disks this may be
+ * impossible, and the schedule does not find that out.
+ *
+ * `transfers` gets an entry for each transfer, in the order in which they were placed, which need not be that of rounds. An entry
+ * is one number: the film in its bits 0 to 15, the source in 16 to 23, the destination in 24 to 31 and the round from bit 32 on;
+ * the functions above take it apart. JUGFJORD_MOST_TRANSFERS entries are always enough. `counts` has nine rows of nine numbers:
+ * counts[source][destination] becomes the number of transfers from the one to the other, and the sum over the table is the number
+ * of transfers. `rows` is the number of rows lent, at least JUGFJORD_ENDS. `counts` cannot be left out: NULL with 0 rows is 7.
+ * Entries beyond the transfers and rows beyond the nine stay as they were.
  *
  * Refusals 8 and 9 with the line for the old text, then 8 and 9 with the line for the new text, 14, 15, and 7 where the list is
  * shorter than the transfers or there are fewer than nine rows. 8 and 9 do not say which text they are of: `jugfjord_judge` of
