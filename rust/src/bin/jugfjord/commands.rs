@@ -96,11 +96,13 @@ A copy with * behind it need not be copied, since its disk held the film before.
 const TRANSFERS: &str = "\
 OLD and NEW are plan texts of one rack of up to 8 disks. A copy of the new plan
 is to be loaded where the old plan has not its film on the same disk. It comes
-from the lowest disk that has the film in the old plan, else from the loader. In
-a round each disk and the loader take part in at most one transfer. Marks in the
-texts do not matter.
+from the disk with the lowest number of those that have the film in the old
+plan, else from the loader. In a round each disk and the loader take part in at
+most one transfer. Marks in the texts do not matter. Copies that the new plan
+lacks are not listed: removing them is left to the person who loads the rack.
 The schedule does not look at free slots: the person who loads the rack has to
-keep an old copy on its disk until the last round that copies from it.
+keep an old copy on its disk until the last round that copies from it. On full
+disks this may be impossible, and the schedule does not find that out.
 ";
 
 const COLOURS: &str = "\
