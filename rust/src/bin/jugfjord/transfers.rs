@@ -4,9 +4,8 @@
 use std::iter;
 
 use jugfjord::ffi::Transferred;
-use jugfjord::rack::MOST_SLOTS;
 use jugfjord::refusal::Refusal;
-use jugfjord::transfers::Transfer;
+use jugfjord::transfers::{CountRow, Transfer, ENDS, LOADER, MOST_TRANSFERS, MOST_TRANSFER_DISKS};
 use jugfjord::wrap;
 
 use crate::arguments::Arguments;
@@ -15,15 +14,6 @@ use crate::page::{counted, in_lines, Page, Row, Titles, GAP};
 use crate::plan_file::PlanFile;
 use crate::standard;
 use crate::words::shown;
-
-/// The most disks of a rack whose transfers are found.
-const MOST_DISKS: u32 = 8;
-/// The most transfers that such a rack can need.
-const MOST_TRANSFERS: usize = (MOST_DISKS * MOST_SLOTS) as usize;
-/// The loader, by its number among the disks.
-const LOADER: u32 = 0;
-/// The loader and the disks.
-const ENDS: usize = MOST_DISKS as usize + 1;
 
 const TITLES: Titles<2> = (["round", "film from the loader"], "films between disks");
 /// How many transfers between disks a line has room for.
@@ -46,7 +36,7 @@ pub fn transfers(arguments: &Arguments) -> Result<Vec<u8>, Failure> {
 }
 
 /// How much there is to copy, in how many rounds, and how much of it from where.
-fn summary(found: &Transferred, counts: &[[u32; ENDS]; ENDS]) -> String {
+fn summary(found: &Transferred, counts: &[CountRow; ENDS]) -> String {
     let copies = match found.transfers {
         0 => return "nothing to copy: each disk has all its films already".into(),
         1 => "1 copy".into(),
@@ -122,7 +112,7 @@ fn refused(old: &PlanFile, new: &PlanFile, refusal: Refusal) -> Failure {
     let old_judged = wrap::judge(&old.text);
     match refusal.number {
         8 | 9 if old_judged.number == 0 => new.refused(refusal),
-        14 if old_judged.disks > MOST_DISKS => too_many_disks(old, refusal),
+        14 if old_judged.disks as usize > MOST_TRANSFER_DISKS => too_many_disks(old, refusal),
         14 => too_many_disks(new, refusal),
         15 => other_first_line(old, new, refusal),
         _ => old.refused(refusal),
@@ -134,7 +124,7 @@ fn too_many_disks(file: &PlanFile, refusal: Refusal) -> Failure {
     let (at, numbers) = (file.source.line(1), refusal.numbers());
     let disks = wrap::judge(&file.text).disks;
     Failure::refused(format!(
-        "{at}: the rack has {disks} disks, more than {MOST_DISKS} {numbers}"
+        "{at}: the rack has {disks} disks, more than {MOST_TRANSFER_DISKS} {numbers}"
     ))
 }
 
