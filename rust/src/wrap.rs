@@ -96,10 +96,10 @@ pub fn judge(text: &[u8]) -> ReadPlan {
     unsafe { ffi::jugfjord_judge(text.as_ptr(), text.len()) }
 }
 
-/// Finds what to copy so that a rack with the old text's plan gets the copies of the new one's, each
-/// transfer with its round, and counts the transfers by source and destination. The counts take the
-/// first nine rows. Entries beyond the transfers and rows beyond the nine stay as they were. A refusal
-/// leaves all so.
+/// Finds what to copy so that a rack with the old text's plan gets the copies of the new one's,
+/// each transfer with its round, and counts the transfers by source and destination. The counts
+/// take the first nine rows. Entries beyond the transfers and rows beyond the nine stay as they
+/// were. A refusal leaves all so.
 pub fn transfers(
     old: &[u8],
     new: &[u8],

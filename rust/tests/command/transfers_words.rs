@@ -5,7 +5,7 @@ use crate::transfers::{folder, NEW, OLD};
 
 const TRANSFERS: [&str; 3] = ["transfers", "old.txt", "new.txt"];
 
-/// Texts that are refused, and what is said of them behind the file's name.
+/// Texts that are refused, and what is said of them after the file's name.
 const REFUSED: [(&str, &str); 6] = [
     ("", ":1: the text ends before this line (refused 9, line 1)"),
     (
