@@ -10,7 +10,7 @@ use Rattle.placement.specs.WellFormed.{Each}
 use Rattle.placement.proofs.Each.{each-append}
 use Rattle.placement.proofs.Tests.{by-order}
 use Rattle.transfers.specs.Stored.{StoredCopy}
-use Rattle.transfers.specs.Schedule.{Transfer, transfer, transferFor, schedule}
+use Rattle.transfers.specs.Schedule.{Transfer, transfer, transferFor, schedule, roundsOf}
 use Rattle.transfers.specs.Keys.{CopyFits, TransferFits, placedWith}
 use Rattle.transfers.specs.Words.{FromLoader, FromLowest, InEarliest, transferAt, Scheduled}
 use Rattle.transfers.proofs.TableSum.{table-sum}
@@ -89,6 +89,11 @@ schedule-fits old new olds news few =
     news (λ h. tt)
     (omega (arith, place-length old [] new))
 
+-- No round is above the number of rounds.
+rounds-within : (most : ℕ) (ts : List Transfer) → roundsOf ts ≤ most → Each (λ (t : Transfer). t .round ≤ most) ts
+rounds-within most [] few = tt
+rounds-within most (t ∷ ts) few = (omega arith, rounds-within most ts (omega arith))
+
 -- All of 02's words.
 pub schedule-words :
     (old new : List StoredCopy) → DisksAscend 1 old → Each CopyFits old → Each CopyFits new → length new ≤ 256
@@ -101,5 +106,6 @@ schedule-words old new above olds news few =
       rounds = schedule-rounds old new;
       alone = alone old new;
       few = few-rounds old new olds news;
+      within = rounds-within (roundsOf (schedule old new)) (schedule old new) (omega arith);
       summed = table-sum (schedule old new) (schedule-fits old new olds news few);
     }

@@ -2,13 +2,18 @@
 use mathlib.Core.Path.{_≡_, refl}
 use mathlib.Core.Bool.{true, false}
 use mathlib.Core.List.{List, [], _∷_, map}
+use mathlib.Core.Logic.{inl, inr}
+use native.Mathlib.Omega.{arith}
+use Rattle.refusal.specs.declared.Refusal.the-variants.{Line, TooManyDisks, FirstLinesDiffer}
 use Rattle.plan_text.specs.Decimal.{decimal}
 use Rattle.plan_text.specs.Reading.{planRead}
 use Rattle.transfers.specs.Stored.{StoredCopy, stored, ascending, isStored, sourceOf}
 use Rattle.transfers.specs.Schedule.{Transfer, transfer, bothFree, earliest, schedule, roundsOf}
 use Rattle.transfers.specs.Counts.{countTable, tableSum}
-use Rattle.transfers.specs.Transfers.{sameLine, transferEntry, transferIn, transferring, listAfter, tableAfter, countsOf}
-use Rattle.transfers.specs.Words.{lacking, partsIn, partsOf, mostParts}
+use Rattle.transfers.specs.Transfers.{sameLine, transferEntry, transferIn, sums, transferring, listAfter, tableAfter, countsOf}
+use Rattle.transfers.specs.Words.{StandsBefore, Ordered, lacking, partsIn, partsOf, mostParts}
+use Rattle.transfers.specs.declared.answer.TransfersAnswer.the-variants.{Scheduled, Refused}
+use Rattle.transfers.specs.Answers.{transferNumbers}
 use Rattle.transfers.specs.TransferExamples.{at, noCounts, triangleTransfers, pathTransfers}
 use Rattle.transfers.specs.TransferExamples.{transferRows, transferOutcome, transferExpected}
 
@@ -113,3 +118,29 @@ pub parts-in-hold :
     (partsIn 4 1 pathTransfers ≡ 1) × (partsIn 4 2 pathTransfers ≡ 0) × (partsIn 4 3 pathTransfers ≡ 1)
     × (partsIn 1 5 (transfer 0 1 6 5 ∷ transfer 1 2 9 5 ∷ transfer 0 1 7 4 ∷ []) ≡ 2)
 parts-in-hold = (refl, refl, refl, refl)
+
+-- The numbers of an answer: those of a schedule, or those of a refusal and zero for the rest.
+pub numbers-hold :
+    (transferNumbers (Scheduled 5 3) ≡ record { refusal = 0; second = 0; values = sums 5 3 })
+    × (transferNumbers (Refused TooManyDisks) ≡ record { refusal = 14; second = 0; values = sums 0 0 })
+    × (transferNumbers (Refused FirstLinesDiffer) ≡ record { refusal = 15; second = 0; values = sums 0 0 })
+    × (transferNumbers (Refused (Line 4)) ≡ record { refusal = 9; second = 4; values = sums 0 0 })
+numbers-hold = (refl, refl, refl, refl)
+
+-- Copies in order: by disk, then film; neither a lower film nor a lower disk comes later.
+pub ordered-hold : Ordered (stored 1 4 ∷ stored 1 5 ∷ stored 2 1 ∷ [])
+ordered-hold = (inr (refl, omega arith), (inl (omega arith), tt))
+
+pub film-later-hold : Ordered (stored 1 5 ∷ stored 1 4 ∷ []) → ⊥
+film-later-hold o = refute (o .0)
+  where
+    refute : StandsBefore (stored 1 5) (stored 1 4) → ⊥
+    refute (inl less) = omega arith
+    refute (inr both) = omega (arith, both .1)
+
+pub disk-later-hold : Ordered (stored 2 1 ∷ stored 1 9 ∷ []) → ⊥
+disk-later-hold o = refute (o .0)
+  where
+    refute : StandsBefore (stored 2 1) (stored 1 9) → ⊥
+    refute (inl less) = omega arith
+    refute (inr both) = omega (arith, both .0)

@@ -7,15 +7,16 @@ use lib.ListN.{length}
 use Rattle.refusal.specs.Verdict.{Verdict, given, refused, Numbers}
 use Rattle.placement.specs.Plan.{Plan}
 use Rattle.plan_text.specs.ReadCall.{answerTo as answerFor, textVerdict, judging}
-use Rattle.plan_text.proofs.Verdicts.{verdict-same}
+use Rattle.plan_text.proofs.Verdicts.{verdict-same, verdict-text}
 use Rattle.transfers.specs.Stored.{storedCopies}
 use Rattle.transfers.specs.Schedule.{Transfer}
 use Rattle.transfers.specs.Transfers.{Plans, textsVerdict, transfersOf, transfersVerdict, Sums, answerTo, transferring, listAfter}
 use Rattle.transfers.specs.TransfersPromise.{Listed, TransfersPromise}
+use Rattle.transfers.proofs.StoredPlans.{stored-is}
 use Rattle.transfers.proofs.Ordered.{stored-ordered, transfers-ordered}
-use Rattle.transfers.proofs.BothTexts.{text-late, texts-late, texts-first, texts-second, texts-given}
+use Rattle.transfers.proofs.BothTexts.{text-late, BothRead, texts-late, texts-first, texts-second, texts-given, texts-read}
 use Rattle.transfers.proofs.ReadPlans.{old-formed, new-formed, read-words}
-use Rattle.transfers.proofs.Judged.{judged-refused, by-call, answer-by, list-by}
+use Rattle.transfers.proofs.Judged.{judged-refused, judged-given, by-call, answer-by, list-by}
 
 -- The numbers of a text by its verdict.
 judged-refusal : (text : List ℕ) (v : Verdict Plan) → textVerdict text ≡ v → judging text .refusal ≡ answerFor v .refusal
@@ -76,6 +77,7 @@ module _ (old new entry : List ℕ) (rows : ℕ) where
         newText = verdict-same new (both .new) (read .second);
         fewDisks = (read .firstFew, read .secondFew);
         sameLine = read .line;
+        asPlanned = (stored-is (both .old), stored-is (both .new));
         ordered =
             transfers-ordered (storedCopies (both .old)) (storedCopies (both .new))
             (stored-ordered (both .new) (new-formed old new both read));
@@ -95,6 +97,15 @@ module _ (old new entry : List ℕ) (rows : ℕ) where
             (λ both e f. absurd (omega (arith, some, refusal-by old new (length entry) rows (given (transfersOf both)) f)));
         oldRefused = old-refused old new (length entry) rows;
         newRefused = new-refused old new (length entry) rows;
+        accepted = λ both okOld isOld okNew isNew fewOld fewNew line places table.
+            let read : BothRead old new both = record {
+              first = ap textVerdict (sym isOld) ∙ verdict-text (both .old) okOld;
+              second = ap textVerdict (sym isNew) ∙ verdict-text (both .new) okNew;
+              firstFew = fewOld;
+              secondFew = fewNew;
+              line = line;
+            } in
+            refusal-by old new (length entry) rows (given (transfersOf both)) (judged-given old new (length entry) rows both (texts-read old new both read) places table);
         planned = λ none.
             by-call old new (length entry) rows
             (λ n s e f. absurd (omega (arith, none, refusal-by old new (length entry) rows (refused n s) f, texts-late old new n s e)))

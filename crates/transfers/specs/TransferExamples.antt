@@ -116,7 +116,7 @@ abbrev emptyRack : List ℕ
 emptyRack = text "(rack 2 3 9)" ("(disk 1)" ∷ "(disk 2)" ∷ []) "(served 0 0)"
 
 abbrev unsorted : List ℕ
-unsorted = text "(rack 2 3 9)" ("(disk 1 (300 1) (5 1) (41 1))" ∷ "(disk 2 (9 2) (5 1))" ∷ []) "(served 6 0)"
+unsorted = text "(rack 2 3 9)" ("(disk 1 (300 0) (5 3) (41 2))" ∷ "(disk 2 (9 2) (5 1))" ∷ []) "(served 8 0)"
 
 abbrev unsortedTransfers : List Transfer
 unsortedTransfers = transfer 0 1 5 1 ∷ transfer 0 1 41 2 ∷ transfer 0 1 300 3 ∷ transfer 0 2 5 4 ∷ transfer 0 2 9 5 ∷ []

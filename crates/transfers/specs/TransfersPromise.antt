@@ -12,7 +12,7 @@ use Rattle.plan_text.specs.ReadCall.{judging}
 use Rattle.transfers.specs.Stored.{storedCopies}
 use Rattle.transfers.specs.Counts.{countBy, goes, ends, countTable, countAt, tableSum}
 use Rattle.transfers.specs.Transfers.{Plans, transfersOf, mostTransferDisks, transferEntry, Sums, sumsOf, transferring, listAfter, tableAfter, countsOf}
-use Rattle.transfers.specs.Words.{copyMade, Ordered, Scheduled}
+use Rattle.transfers.specs.Words.{StoredAsPlanned, copyMade, Ordered, Scheduled}
 
 -- Two texts of well-formed plans with the same first line and at most 8 disks, and their transfers in the lent list.
 pub record Listed (old new entry exit : List ℕ) (values : Sums) : Type 0 where
@@ -23,6 +23,8 @@ pub record Listed (old new entry exit : List ℕ) (values : Sums) : Type 0 where
   pub newText : textOf (both .new) ≡ new
   pub fewDisks : (length (both .old .rack) ≤ mostTransferDisks) × (length (both .new .rack) ≤ mostTransferDisks)
   pub sameLine : firstLine (both .old .rack) ≡ firstLine (both .new .rack)
+  -- "marks in the texts are ignored", and a copy with 0 viewers is a copy
+  pub asPlanned : StoredAsPlanned (both .old) × StoredAsPlanned (both .new)
   -- "by ascending destination, then film"
   pub ordered : Ordered (map copyMade (transfersOf both))
   pub scheduled : Scheduled (storedCopies (both .old)) (storedCopies (both .new)) (transfersOf both)
@@ -40,6 +42,11 @@ pub record TransfersPromise (old new entry exit : List ℕ) (rows : ℕ) (answer
   pub oldRefused : 1 ≤ judging old .refusal → (answer .refusal ≡ judging old .refusal) × (answer .second ≡ judging old .second)
   pub newRefused :
       judging old .refusal ≡ 0 → 1 ≤ judging new .refusal → (answer .refusal ≡ judging new .refusal) × (answer .second ≡ judging new .second)
+  -- no refusal is given otherwise
+  pub accepted :
+      (both : Plans) → wellFormed (both .old) ≡ true → textOf (both .old) ≡ old → wellFormed (both .new) ≡ true → textOf (both .new) ≡ new
+      → length (both .old .rack) ≤ mostTransferDisks → length (both .new .rack) ≤ mostTransferDisks
+      → firstLine (both .old .rack) ≡ firstLine (both .new .rack) → length (transfersOf both) ≤ length entry → ends ≤ rows → answer .refusal ≡ 0
   -- where nothing is refused, the list is a schedule in 02's words
   pub planned : answer .refusal ≡ 0 → Listed old new entry exit (answer .values)
 

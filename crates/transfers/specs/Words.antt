@@ -1,15 +1,26 @@
 -- A schedule in document 02's words: what every list of transfers keeps.
-use Prim.Native.Nat.{ℕ, _+_, _*_, _≤_, _<_, max}
+use Prim.Native.Nat.{ℕ, suc, _+_, _*_, _≤_, _<_, max}
 use mathlib.Core.Path.{_≡_}
-use mathlib.Core.Bool.{true, false, cond, not, _&&_}
+use mathlib.Core.Bool.{Bool, true, false, cond, not, _&&_}
 use mathlib.Core.List.{List, [], _∷_, map}
 use mathlib.Core.Logic.{_⊎_}
-use lib.Dec.{eqb}
+use lib.Dec.{leb, eqb}
 use lib.ListN.{length, take, getD}
+use Rattle.placement.specs.Items.{occurrences}
+use Rattle.placement.specs.Copies.{layoutOf}
+use Rattle.placement.specs.Plan.{Plan}
 use Rattle.placement.specs.WellFormed.{Each}
-use Rattle.transfers.specs.Stored.{StoredCopy, stored, isStored}
+use Rattle.transfers.specs.Stored.{StoredCopy, stored, isStored, storedCopies}
 use Rattle.transfers.specs.Schedule.{Transfer, transfer, takesPart, bothFree, roundsOf}
 use Rattle.transfers.specs.Counts.{countBy, valuesFrom, ends, countTable, tableSum}
+
+-- A plan has the film on disk d + 1, whatever its viewers and its mark.
+abbrev pub hasFilm : Plan → (d film : ℕ) → Bool
+hasFilm p d film = leb 1 (occurrences film (getD (layoutOf (p .copies)) d []))
+
+-- The stored copies of a plan are its films by disk.
+abbrev pub StoredAsPlanned : Plan → Type 0
+StoredAsPlanned p = (d film : ℕ) → isStored (stored (suc d) film) (storedCopies p) ≡ hasFilm p d film
 
 -- The copies of the second list that the first one lacks, in their order.
 abbrev pub lacking : (old new : List StoredCopy) → List StoredCopy
@@ -84,6 +95,8 @@ pub record Scheduled (old new : List StoredCopy) (ts : List Transfer) : Type 0 w
   pub sources : Each (λ t. FromLoader old t ⊎ FromLowest old t) ts
   -- each in the earliest round, given those before it
   pub rounds : (i : ℕ) → i < length ts → InEarliest (take i ts) (transferAt ts i)
+  -- none after the number of rounds
+  pub within : Each (λ t. t .round ≤ roundsOf ts) ts
   -- "in one round every disk and the loader take part in at most one transfer"
   pub alone : (end round : ℕ) → partsIn end round ts ≤ 1
   -- "the schedule built here takes at most 2d − 1 rounds when d is at least 1"

@@ -147,8 +147,8 @@ pub fn transfers_counted(
 pub fn transfers(old: &[u8], new: &[u8], list: &mut [u64]) -> TransfersAnswer
     ensures { λ r. ⌜ TransfersPromise (now (old .entry)) (now (new .entry)) (now (list .entry)) (now (list .exit)) ends (transferNumbers r) ⌝ }
 {
-    let mut counts = [[0u32; 9]; 9];
-    transfers_counted(old, new, list, &mut counts)
+    let mut table = [[0u32; 9]; 9];
+    transfers_counted(old, new, list, &mut table)
 }
 
 // The counts of the transfers from an old plan's text to a new one's, all zero where the texts are refused.

@@ -96,7 +96,7 @@ fn schedule(
     n
 }
 
-// The largest round of some entries, 0 where there are none: that of those before `i`.
+// The largest round of some entries, 0 where there are none: that of those from `i` on.
 fn most_round(entries: &[u64]) -> u64
     ensures { λ r. ⌜ r ≡ roundsOf (map transferIn (now (entries .entry))) ⌝ }
 {
