@@ -35,7 +35,7 @@ fn transferred_numbers(answer: TransfersAnswer) -> Transferred
     ensures { λ r. ⌜ transferredFields r ≡ transferNumbers answer ⌝ }
 {
     match answer {
-        TransfersAnswer::Scheduled { transfers, rounds } => Transferred {
+        TransfersAnswer::InRounds { transfers, rounds } => Transferred {
             number: 0,
             second: 0,
             transfers,

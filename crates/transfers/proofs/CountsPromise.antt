@@ -9,7 +9,7 @@ use Rattle.refusal.specs.Verdict.{given, refused, Numbers}
 use Rattle.plan_text.specs.ReadCall.{textVerdict}
 use Rattle.plan_text.proofs.Verdicts.{verdict-text}
 use Rattle.transfers.specs.Counts.{ends, countTable, countAt, tableSum}
-use Rattle.transfers.specs.Transfers.{Plans, textsVerdict, transfersOf, transfersVerdict, Sums, transferring, listAfter, tableAfter, countsOf}
+use Rattle.transfers.specs.Transfers.{Plans, textsVerdict, transfersOf, transfersVerdict, Sums, transferring, entriesAfter, tableAfter, countsOf}
 use Rattle.transfers.specs.TransfersPromise.{Listed, CountsPromise, CountedPromise}
 use Rattle.transfers.proofs.TableSum.{count-at}
 use Rattle.transfers.proofs.BothTexts.{BothRead, texts-late, texts-read}
@@ -65,7 +65,7 @@ module _ (old new : List ℕ) where
     -- An answer, a list and a table that are the definition's keep the promise of both.
     pub counted-promise :
         {exit : List ℕ} {tableExit : List (List ℕ)} {answer : Numbers Sums} → answer ≡ transferring old new (length entry) (length table)
-        → exit ≡ listAfter old new entry (length table) → tableExit ≡ tableAfter old new (length entry) table
+        → exit ≡ entriesAfter old new entry (length table) → tableExit ≡ tableAfter old new (length entry) table
         → CountedPromise old new entry exit table tableExit answer
     counted-promise {exit} {tableExit} {answer} numbers list same =
         let number = ap (λ (a : Numbers Sums). a .refusal) numbers in

@@ -13,7 +13,7 @@ use Rattle.placement.proofs.Conjunctions.{and-holds, first-fails, second-decide
 use Rattle.placement.proofs.Tests.{by-order}
 use Rattle.transfers.specs.Schedule.{Transfer}
 use Rattle.transfers.specs.Counts.{ends}
-use Rattle.transfers.specs.Transfers.{followedWith, Plans, textsVerdict, transfersOf, spaceJudged, transfersVerdict, answerTo, listGiven, tableGiven, countsGiven, transferring, listAfter, tableAfter, countsOf}
+use Rattle.transfers.specs.Transfers.{followedWith, Plans, textsVerdict, transfersOf, spaceJudged, transfersVerdict, answerTo, listGiven, tableGiven, countsGiven, transferring, entriesAfter, tableAfter, countsOf}
 
 -- Places or rows that are too few fail the test of space.
 too-few : (places rows n : ℕ) → (places < n) ⊎ (rows < ends) → (leb n places && leb ends rows) ≡ false
@@ -74,8 +74,8 @@ module _ (old new : List ℕ) where
   -- The list and the table by it,
   pub list-by :
       (list : List ℕ) (rows : ℕ) (v : Verdict (List Transfer)) → transfersVerdict old new (length list) rows ≡ v
-      → listGiven list v ≡ listAfter old new list rows
-  unfolding listAfter
+      → listGiven list v ≡ entriesAfter old new list rows
+  unfolding entriesAfter
   list-by list rows v e = ap (listGiven list) (sym e)
 
   pub table-by :

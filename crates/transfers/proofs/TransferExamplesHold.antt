@@ -10,16 +10,16 @@ use Rattle.plan_text.specs.Reading.{planRead}
 use Rattle.transfers.specs.Stored.{StoredCopy, stored, ascending, isStored, sourceOf}
 use Rattle.transfers.specs.Schedule.{Transfer, transfer, bothFree, earliest, schedule, roundsOf}
 use Rattle.transfers.specs.Counts.{countTable, tableSum}
-use Rattle.transfers.specs.Transfers.{sameLine, transferEntry, transferIn, sums, transferring, listAfter, tableAfter, countsOf}
+use Rattle.transfers.specs.Transfers.{sameLine, transferEntry, transferIn, sums, transferring, entriesAfter, tableAfter, countsOf}
 use Rattle.transfers.specs.Words.{StandsBefore, Ordered, lacking, partsIn, partsOf, mostParts}
-use Rattle.transfers.specs.declared.answer.TransfersAnswer.the-variants.{Scheduled, Refused}
+use Rattle.transfers.specs.declared.answer.TransfersAnswer.the-variants.{InRounds, Refused}
 use Rattle.transfers.specs.Answers.{transferNumbers}
 use Rattle.transfers.specs.TransferExamples.{at, noCounts, triangleTransfers, pathTransfers}
 use Rattle.transfers.specs.TransferExamples.{transferRows, transferOutcome, transferExpected}
 
 -- Every row's outcome, the answer, the list, the table and the counts, is the one expected.
 pub transfers-hold : map transferOutcome transferRows ≡ map transferExpected transferRows
-unfolding transferring listAfter tableAfter countsOf planRead decimal
+unfolding transferring entriesAfter tableAfter countsOf planRead decimal
 transfers-hold = refl
 
 -- The same bytes are the same line; other bytes, and a line with more behind it, are not.
@@ -121,7 +121,7 @@ parts-in-hold = (refl, refl, refl, refl)
 
 -- The numbers of an answer: those of a schedule, or those of a refusal and zero for the rest.
 pub numbers-hold :
-    (transferNumbers (Scheduled 5 3) ≡ record { refusal = 0; second = 0; values = sums 5 3 })
+    (transferNumbers (InRounds 5 3) ≡ record { refusal = 0; second = 0; values = sums 5 3 })
     × (transferNumbers (Refused TooManyDisks) ≡ record { refusal = 14; second = 0; values = sums 0 0 })
     × (transferNumbers (Refused FirstLinesDiffer) ≡ record { refusal = 15; second = 0; values = sums 0 0 })
     × (transferNumbers (Refused (Line 4)) ≡ record { refusal = 9; second = 4; values = sums 0 0 })

@@ -10,7 +10,7 @@ use Rattle.plan_text.specs.ReadCall.{answerTo as answerFor, textVerdict, judgin
 use Rattle.plan_text.proofs.Verdicts.{verdict-same, verdict-text}
 use Rattle.transfers.specs.Stored.{storedCopies}
 use Rattle.transfers.specs.Schedule.{Transfer}
-use Rattle.transfers.specs.Transfers.{Plans, textsVerdict, transfersOf, transfersVerdict, Sums, answerTo, transferring, listAfter}
+use Rattle.transfers.specs.Transfers.{Plans, textsVerdict, transfersOf, transfersVerdict, Sums, answerTo, transferring, entriesAfter}
 use Rattle.transfers.specs.TransfersPromise.{Listed, TransfersPromise}
 use Rattle.transfers.proofs.StoredPlans.{stored-is}
 use Rattle.transfers.proofs.Ordered.{stored-ordered, transfers-ordered}
@@ -66,7 +66,7 @@ module _ (old new entry : List ℕ) (rows : ℕ) where
   -- The call is not refused, so its texts are those of two plans, and their transfers are in the list.
   listed :
       (both : Plans) → textsVerdict old new ≡ given both → transfersVerdict old new (length entry) rows ≡ given (transfersOf both)
-      → Listed old new entry (listAfter old new entry rows) (transferring old new (length entry) rows .values)
+      → Listed old new entry (entriesAfter old new entry rows) (transferring old new (length entry) rows .values)
   listed both e f =
       let read = texts-given old new both e in
       record {
@@ -86,7 +86,7 @@ module _ (old new entry : List ℕ) (rows : ℕ) where
         told = sym (ap (λ (a : Numbers Sums). a .values) (answer-by old new (length entry) rows (given (transfersOf both)) f));
       }
 
-  by-definition : TransfersPromise old new entry (listAfter old new entry rows) rows (transferring old new (length entry) rows)
+  by-definition : TransfersPromise old new entry (entriesAfter old new entry rows) rows (transferring old new (length entry) rows)
   by-definition =
       record {
         numbers = refl;
@@ -115,7 +115,7 @@ module _ (old new entry : List ℕ) (rows : ℕ) where
 
   -- An answer and a list that are the definition's keep the whole promise.
   pub transfers-promise :
-      {exit : List ℕ} {answer : Numbers Sums} → answer ≡ transferring old new (length entry) rows → exit ≡ listAfter old new entry rows
+      {exit : List ℕ} {answer : Numbers Sums} → answer ≡ transferring old new (length entry) rows → exit ≡ entriesAfter old new entry rows
       → TransfersPromise old new entry exit rows answer
   transfers-promise {exit} {answer} numbers list =
       subst (λ (a : Numbers Sums). TransfersPromise old new entry exit rows a) (sym numbers)

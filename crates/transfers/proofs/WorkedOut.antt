@@ -10,7 +10,7 @@ use Rattle.placement.specs.Tables.{written}
 use Rattle.placement.specs.WellFormed.{Each}
 use Rattle.transfers.specs.Schedule.{Transfer}
 use Rattle.transfers.specs.Counts.{ends, countTable}
-use Rattle.transfers.specs.Transfers.{Plans, textsVerdict, transfersOf, transfersVerdict, transferEntry, transferIn, Sums, sums, answerTo, listGiven, tableGiven, transferring, listAfter, tableAfter}
+use Rattle.transfers.specs.Transfers.{Plans, textsVerdict, transfersOf, transfersVerdict, transferEntry, transferIn, Sums, sums, answerTo, listGiven, tableGiven, transferring, entriesAfter, tableAfter}
 use Rattle.transfers.specs.Keys.{TransferFits, Outcome, WorkedOut}
 use Rattle.transfers.proofs.Entries.{transfers-entries}
 use Rattle.transfers.proofs.BothTexts.{texts-late}
@@ -21,7 +21,7 @@ abbrev pub Keeps :
     (old new list : List ℕ) → (table : List (List ℕ)) → Numbers Sums → (listExit : List ℕ) → (tableExit : List (List ℕ)) → Type 0
 Keeps old new list table answer listExit tableExit =
     (answer ≡ transferring old new (length list) (length table))
-    × (listExit ≡ listAfter old new list (length table))
+    × (listExit ≡ entriesAfter old new list (length table))
     × (tableExit ≡ tableAfter old new (length list) table)
 
 -- They are by the verdict.

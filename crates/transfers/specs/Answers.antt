@@ -4,13 +4,13 @@ use Rattle.refusal.specs.Verdict.{Verdict, given, Numbers, answered}
 use Rattle.refusal.specs.Numbers.{refusalOf}
 use Rattle.transfers.specs.Transfers.{Sums, sums}
 use Rattle.transfers.specs.declared.answer.TransfersAnswer.{TransfersAnswer}
-use Rattle.transfers.specs.declared.answer.TransfersAnswer.the-variants.{Scheduled, Refused}
+use Rattle.transfers.specs.declared.answer.TransfersAnswer.the-variants.{InRounds, Refused}
 use Rattle.transfers.specs.declared.answer.TextRead.{TextRead}
 use Rattle.transfers.specs.declared.answer.TextRead.the-variants.{Stored, Declined}
 
 -- What the answer says of the call: the numbers of a schedule, or a refusal.
 abbrev pub answerVerdict : TransfersAnswer → Verdict Sums
-answerVerdict (Scheduled transfers rounds) = given (sums transfers rounds)
+answerVerdict (InRounds transfers rounds) = given (sums transfers rounds)
 answerVerdict (Refused r) = refusalOf r
 
 -- The numbers of the answer.

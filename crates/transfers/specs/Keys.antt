@@ -32,6 +32,10 @@ pub record TablesFit (rack : List Disk) (copies counts : List ℕ) : Type 0 wher
   pub room : CopyRoom rack copies counts
   pub unused : unusedZeroFrom rack copies counts ≡ true
 
+-- The most transfers, and the most stored copies of a rack of 8 disks: 32 slots each.
+abbrev pub mostTransfers : ℕ
+mostTransfers = 256
+
 -- A row of the table of busy rounds for each end, with a place for each round.
 abbrev pub rowLength : ℕ
 rowLength = 256
@@ -107,21 +111,21 @@ pub record Placed (n : ℕ) (entries busy : List ℕ) (placed : List Transfer) :
   pub table : BusyTable busy placed
 
 -- Behind n transfers the copy's own is placed, unless the old plan has the copy.
-abbrev pub Loaded : (old : List StoredCopy) → StoredCopy → (n : ℕ) → (entries busy : List ℕ) → (n′ : ℕ) → (entries′ busy′ : List ℕ) → Type 0
-Loaded old c n entries busy n′ entries′ busy′ =
+abbrev pub PlacedMissing : (old : List StoredCopy) → StoredCopy → (n : ℕ) → (entries busy : List ℕ) → (n′ : ℕ) → (entries′ busy′ : List ℕ) → Type 0
+PlacedMissing old c n entries busy n′ entries′ busy′ =
     (placed : List Transfer) → Placed n entries busy placed
     → Placed n′ entries′ busy′ (cond (isStored c old) placed (placedWith old c placed))
 
 -- The disks of a rack, and how many keys stand in front for these copies, unless the rack has more than 8 disks.
-abbrev pub StoredIn : (disks : ℕ) → List StoredCopy → (keys : List ℕ) → Verdict (ℕ × ℕ) → Type 0
-StoredIn disks copies keys v =
+abbrev pub KeysHold : (disks : ℕ) → List StoredCopy → (keys : List ℕ) → Verdict (ℕ × ℕ) → Type 0
+KeysHold disks copies keys v =
     (n : ℕ) × (v ≡ given (disks, n)) × (n ≤ length keys) × (disks ≤ mostTransferDisks → storedAt n keys ≡ copies)
 
 -- A text that is refused, or whose plan's rack and stored copies stand in front.
 abbrev pub StoredText : Verdict Plan → (rack keys : List ℕ) → Verdict (ℕ × ℕ) → Type 0
 StoredText (refused number second) rack keys v = v ≡ refused number second
 StoredText (given p) rack keys v =
-    (disksIn (take (length (p .rack)) rack) ≡ p .rack) × StoredIn (length (p .rack)) (storedCopies p) keys v
+    (disksIn (take (length (p .rack)) rack) ≡ p .rack) × KeysHold (length (p .rack)) (storedCopies p) keys v
 
 -- The new text behind an old one with this rack and so many copies.
 abbrev pub StoredNew : Verdict Plan → (old : List Disk) → (copies : ℕ) → (keys : List ℕ) → Verdict (ℕ × ℕ) → Type 0

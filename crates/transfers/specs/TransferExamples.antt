@@ -6,7 +6,7 @@ use lib.ListN.{length, replicate, getD, set}
 use Rattle.refusal.specs.Verdict.{Numbers}
 use Rattle.plan_text.specs.Examples.{textLines}
 use Rattle.transfers.specs.Schedule.{Transfer, transfer}
-use Rattle.transfers.specs.Transfers.{Sums, sums, transferEntry, transferring, listAfter, tableAfter, countsOf}
+use Rattle.transfers.specs.Transfers.{Sums, sums, transferEntry, transferring, entriesAfter, tableAfter, countsOf}
 
 -- Two texts with what is lent; then what is expected: the numbers, the list, the table, and the counts of the two texts by themselves.
 pub record TransferRow : Type 0 where
@@ -339,7 +339,7 @@ pub record TransferOutcome : Type 0 where
 abbrev pub transferOutcome : TransferRow → TransferOutcome
 transferOutcome r = record {
   numbers = transferring (r .old) (r .new) (length (r .list)) (length (r .table));
-  list = listAfter (r .old) (r .new) (r .list) (length (r .table));
+  list = entriesAfter (r .old) (r .new) (r .list) (length (r .table));
   table = tableAfter (r .old) (r .new) (length (r .list)) (r .table);
   counts = countsOf (r .old) (r .new);
 }

@@ -101,8 +101,8 @@ unfoldable pub transferring : (old new : List ℕ) → (places rows : ℕ) → N
 transferring old new places rows = answerTo (transfersVerdict old new places rows)
 
 -- The list after it.
-unfoldable pub listAfter : (old new list : List ℕ) → (rows : ℕ) → List ℕ
-listAfter old new list rows = listGiven list (transfersVerdict old new (length list) rows)
+unfoldable pub entriesAfter : (old new list : List ℕ) → (rows : ℕ) → List ℕ
+entriesAfter old new list rows = listGiven list (transfersVerdict old new (length list) rows)
 
 -- The table after it, lent with a list of so many places.
 unfoldable pub tableAfter : (old new : List ℕ) → (places : ℕ) → List (List ℕ) → List (List ℕ)

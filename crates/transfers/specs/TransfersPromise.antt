@@ -11,7 +11,7 @@ use Rattle.plan_text.specs.Text.{textOf, firstLine}
 use Rattle.plan_text.specs.ReadCall.{judging}
 use Rattle.transfers.specs.Stored.{storedCopies}
 use Rattle.transfers.specs.Counts.{countBy, goes, ends, countTable, countAt, tableSum}
-use Rattle.transfers.specs.Transfers.{Plans, transfersOf, mostTransferDisks, transferEntry, Sums, sumsOf, transferring, listAfter, tableAfter, countsOf}
+use Rattle.transfers.specs.Transfers.{Plans, transfersOf, mostTransferDisks, transferEntry, Sums, sumsOf, transferring, entriesAfter, tableAfter, countsOf}
 use Rattle.transfers.specs.Words.{StoredAsPlanned, copyMade, Ordered, Scheduled}
 
 -- Two texts of well-formed plans with the same first line and at most 8 disks, and their transfers in the lent list.
@@ -35,7 +35,7 @@ pub record Listed (old new entry exit : List ℕ) (values : Sums) : Type 0 where
 pub record TransfersPromise (old new entry exit : List ℕ) (rows : ℕ) (answer : Numbers Sums) : Type 0 where
   -- the answer is what the definition gives, and so is every place of the lent list
   pub numbers : answer ≡ transferring old new (length entry) rows
-  pub list : exit ≡ listAfter old new entry rows
+  pub list : exit ≡ entriesAfter old new entry rows
   -- a refusal changes nothing
   pub unchanged : 1 ≤ answer .refusal → exit ≡ entry
   -- the old text's refusals come first, then the new one's

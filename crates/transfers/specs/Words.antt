@@ -79,7 +79,7 @@ abbrev pub largest : List ℕ → ℕ
 largest [] = 0
 largest (n ∷ ns) = max n (largest ns)
 
--- "d the most transfers touching one disk or the loader."
+-- "d the most transfers touching one disk or the loader": the largest degree in the graph of transfers, whose rounds are a greedy edge colouring.
 abbrev pub mostParts : List Transfer → ℕ
 mostParts ts = largest (valuesFrom (λ end. partsOf end ts) 0 ends)
 

@@ -3,7 +3,7 @@ use refusal::Refusal;
 
 // The number of transfers and the number of rounds, or a refusal.
 pub enum TransfersAnswer {
-    Scheduled { transfers: u32, rounds: u32 },
+    InRounds { transfers: u32, rounds: u32 },
     Refused(Refusal),
 }
 

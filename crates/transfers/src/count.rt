@@ -6,7 +6,7 @@ ghost use lib.ListN.{length, drop, getD, set};
 ghost use Rattle.placement.specs.WellFormed.{Each};
 ghost use Rattle.transfers.specs.Counts.{ends, countTable, countAt};
 ghost use Rattle.transfers.specs.Transfers.{transferIn};
-ghost use Rattle.transfers.specs.Keys.{TransferFits, rowLength};
+ghost use Rattle.transfers.specs.Keys.{TransferFits, mostTransfers};
 
 // The table with one transfer more from a source to a destination.
 fn count_transfer(table: [[u32; 9]; 9], source: usize, destination: usize) -> [[u32; 9]; 9]
@@ -20,14 +20,14 @@ fn count_transfer(table: [[u32; 9]; 9], source: usize, destination: usize) -> [[
 
 // The counts of some transfers: those before `i` are counted.
 pub(crate) fn count_transfers(entries: &[u64]) -> [[u32; 9]; 9]
-    requires { ⌜ Each TransferFits (map transferIn (now entries)) × (length (now entries) ≤ rowLength) ⌝ }
+    requires { ⌜ Each TransferFits (map transferIn (now entries)) × (length (now entries) ≤ mostTransfers) ⌝ }
     ensures { λ r. ⌜ r ≡ countTable (map transferIn (now (entries .entry))) ⌝ }
 {
     let mut table = [[0u32; 9]; 9];
     let mut i = 0;
     while i < entries.len() {
-        let ends = entries[i] / 65536;
-        let more = count_transfer(table, (ends % 256) as usize, (ends / 256 % 256) as usize);
+        let above = entries[i] / 65536;
+        let more = count_transfer(table, (above % 256) as usize, (above / 256 % 256) as usize);
         table = more;
         i += 1;
     }

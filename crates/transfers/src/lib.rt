@@ -22,7 +22,7 @@ ghost use Rattle.placement.specs.Tables.{written};
 ghost use Rattle.transfers.specs.Counts.{ends};
 ghost use Rattle.transfers.specs.Transfers.{textsVerdict};
 ghost use Rattle.transfers.specs.TransfersPromise.{TransfersPromise, CountsPromise, CountedPromise};
-ghost use Rattle.transfers.specs.Keys.{rowLength, BusyTable, FullTable, notedPlaces, WorkedOut};
+ghost use Rattle.transfers.specs.Keys.{mostTransfers, BusyTable, FullTable, notedPlaces, WorkedOut};
 ghost use Rattle.transfers.specs.Answers.{transferNumbers};
 
 // Works out the transfers of two texts, with space to work in.
@@ -38,9 +38,9 @@ fn work_out_with(
     busy: &mut [u8],
     full: &mut [u64],
 ) -> TransfersAnswer
-    requires { ⌜ (length (now oldrack) ≡ mostDisks) × (length (now oldkeys) ≡ rowLength) ⌝ }
-    requires { ⌜ (length (now newrack) ≡ mostDisks) × (length (now newkeys) ≡ rowLength) ⌝ }
-    requires { ⌜ (length (now entries) ≡ rowLength) × BusyTable (now busy) [] × (length (now noted) ≡ notedPlaces) × FullTable (now busy) (now full) 0 ⌝ }
+    requires { ⌜ (length (now oldrack) ≡ mostDisks) × (length (now oldkeys) ≡ mostTransfers) ⌝ }
+    requires { ⌜ (length (now newrack) ≡ mostDisks) × (length (now newkeys) ≡ mostTransfers) ⌝ }
+    requires { ⌜ (length (now entries) ≡ mostTransfers) × BusyTable (now busy) [] × (length (now noted) ≡ notedPlaces) × FullTable (now busy) (now full) 0 ⌝ }
     ensures { λ r. ⌜ WorkedOut (textsVerdict (now (old .entry)) (now (new .entry))) (now (entries .exit)) (transferNumbers r) ⌝ }
 {
     let read = read_texts(old, new, oldrack, newrack, oldkeys, newkeys);
@@ -59,7 +59,7 @@ fn work_out_with(
 
 // Works out the transfers of two texts: their entries stand in front, or the answer is a refusal of the texts.
 fn work_out(old: &[u8], new: &[u8], entries: &mut [u64]) -> TransfersAnswer
-    requires { ⌜ length (now entries) ≡ rowLength ⌝ }
+    requires { ⌜ length (now entries) ≡ mostTransfers ⌝ }
     ensures { λ r. ⌜ WorkedOut (textsVerdict (now (old .entry)) (now (new .entry))) (now (entries .exit)) (transferNumbers r) ⌝ }
 {
     let mut oldrack = [0u64; 64];
@@ -103,12 +103,12 @@ fn transfers_through(
     counts: &mut [[u32; 9]],
     entries: &mut [u64],
 ) -> TransfersAnswer
-    requires { ⌜ length (now entries) ≡ rowLength ⌝ }
+    requires { ⌜ length (now entries) ≡ mostTransfers ⌝ }
     ensures { λ r. ⌜ CountedPromise (now (old .entry)) (now (new .entry)) (now (list .entry)) (now (list .exit))
         (now (counts .entry)) (now (counts .exit)) (transferNumbers r) ⌝ }
 {
     let answer = work_out(old, new, entries);
-    let TransfersAnswer::Scheduled {
+    let TransfersAnswer::InRounds {
         transfers,
         rounds: _,
     } = answer

@@ -14,7 +14,7 @@ ghost use lib.ListN.{length};
 ghost use Rattle.placement.specs.WellFormed.{Each};
 ghost use Rattle.transfers.specs.Schedule.{transfer, schedule as scheduleOf, roundsOf};
 ghost use Rattle.transfers.specs.Transfers.{transferEntry, transferIn};
-ghost use Rattle.transfers.specs.Keys.{storedIn, CopyFits, TransferFits, rowLength, busyPlaces, BusyTable, FullTable, notedPlaces, Noted, PlacedNext, EntriesOf, Loaded, Outcome};
+ghost use Rattle.transfers.specs.Keys.{storedIn, CopyFits, TransferFits, mostTransfers, rowLength, busyPlaces, BusyTable, FullTable, notedPlaces, Noted, PlacedNext, EntriesOf, PlacedMissing, Outcome};
 ghost use Rattle.transfers.specs.Answers.{transferNumbers};
 
 // The entry of a transfer.
@@ -50,7 +50,7 @@ fn place(key: u64, old: &[u64], noted: &[u8], busy: &mut [u8], full: &mut [u64],
 }
 
 // Places the transfer of a copy behind n others unless the old plan has the copy, and answers how many there are then.
-fn load(
+fn place_missing(
     key: u64,
     old: &[u64],
     noted: &[u8],
@@ -59,10 +59,10 @@ fn load(
     full: &mut [u64],
     n: usize,
 ) -> usize
-    requires { ⌜ CopyFits (storedIn key) × Each CopyFits (map storedIn (now old)) × (n < length (now entries)) × (length (now entries) ≤ rowLength)
+    requires { ⌜ CopyFits (storedIn key) × Each CopyFits (map storedIn (now old)) × (n < length (now entries)) × (length (now entries) ≤ mostTransfers)
         × (length (now busy) ≡ busyPlaces) ⌝ }
     requires { ⌜ Noted (now noted) (map storedIn (now old)) × FullTable (now busy) (now full) n ⌝ }
-    ensures { λ r. ⌜ Loaded (map storedIn (now (old .entry))) (storedIn key) n (now (entries .entry)) (now (busy .entry)) r (now (entries .exit)) (now (busy .exit)) ⌝ }
+    ensures { λ r. ⌜ PlacedMissing (map storedIn (now (old .entry))) (storedIn key) n (now (entries .entry)) (now (busy .entry)) r (now (entries .exit)) (now (busy .exit)) ⌝ }
     ensures { λ r. ⌜ (r ≤ n + 1) × FullTable (now (busy .exit)) (now (full .exit)) r ⌝ }
 {
     if stored_already(key, old, noted) {
@@ -82,7 +82,7 @@ fn schedule(
     full: &mut [u64],
 ) -> usize
     requires { ⌜ Each CopyFits (map storedIn (now old)) × Each CopyFits (map storedIn (now new)) × (length (now new) ≤ length (now entries))
-        × (length (now entries) ≤ rowLength) × BusyTable (now busy) [] ⌝ }
+        × (length (now entries) ≤ mostTransfers) × BusyTable (now busy) [] ⌝ }
     requires { ⌜ Noted (now noted) (map storedIn (now old)) × FullTable (now busy) (now full) 0 ⌝ }
     ensures { λ r. ⌜ EntriesOf r (now (entries .exit)) (scheduleOf (map storedIn (now (old .entry))) (map storedIn (now (new .entry)))) ⌝ }
     ensures { λ r. ⌜ r ≤ length (now (new .entry)) ⌝ }
@@ -90,7 +90,7 @@ fn schedule(
     let mut n = 0;
     let mut i = 0;
     while i < new.len() {
-        n = load(new[i], old, noted, entries, busy, full, n);
+        n = place_missing(new[i], old, noted, entries, busy, full, n);
         i += 1;
     }
     n
@@ -119,13 +119,13 @@ fn transfers_between(
     full: &mut [u64],
 ) -> TransfersAnswer
     requires { ⌜ Each CopyFits (map storedIn (now old)) × Each CopyFits (map storedIn (now new)) × (length (now new) ≤ length (now entries))
-        × (length (now entries) ≤ rowLength) × BusyTable (now busy) [] ⌝ }
+        × (length (now entries) ≤ mostTransfers) × BusyTable (now busy) [] ⌝ }
     requires { ⌜ Noted (now noted) (map storedIn (now old)) × FullTable (now busy) (now full) 0 ⌝ }
     ensures { λ r. ⌜ Outcome (scheduleOf (map storedIn (now (old .entry))) (map storedIn (now (new .entry)))) (now (entries .exit)) (transferNumbers r) ⌝ }
 {
     let n = schedule(old, noted, new, entries, busy, full);
     let rounds = most_round(&entries[..n]);
-    TransfersAnswer::Scheduled {
+    TransfersAnswer::InRounds {
         transfers: n as u32,
         rounds: rounds as u32,
     }
@@ -141,7 +141,7 @@ pub(crate) fn transfers_noted(
     full: &mut [u64],
 ) -> TransfersAnswer
     requires { ⌜ Each CopyFits (map storedIn (now old)) × Each CopyFits (map storedIn (now new)) × (length (now new) ≤ length (now entries))
-        × (length (now entries) ≤ rowLength) × BusyTable (now busy) [] ⌝ }
+        × (length (now entries) ≤ mostTransfers) × BusyTable (now busy) [] ⌝ }
     requires { ⌜ (length (now noted) ≡ notedPlaces) × FullTable (now busy) (now full) 0 ⌝ }
     ensures { λ r. ⌜ Outcome (scheduleOf (map storedIn (now (old .entry))) (map storedIn (now (new .entry)))) (now (entries .exit)) (transferNumbers r) ⌝ }
 {

@@ -16,15 +16,15 @@ ghost use Rattle.placement.specs.Held.{markedFrom};
 ghost use Rattle.plan_text.specs.ReadCall.{textVerdict};
 ghost use Rattle.transfers.specs.Stored.{storedFrom};
 ghost use Rattle.transfers.specs.Transfers.{mostTransferDisks, sameLine, racksJudged, textsVerdict};
-ghost use Rattle.transfers.specs.Keys.{TablesFit, rowLength, StoredIn, StoredText, StoredNew, StoredTexts};
+ghost use Rattle.transfers.specs.Keys.{TablesFit, mostTransfers, KeysHold, StoredText, StoredNew, StoredTexts};
 ghost use Rattle.transfers.specs.Answers.{textRead};
 
 // The disks of a plan and how many keys its stored copies are; none where it has more than 8 disks.
 fn stored_copies(rack: &[u64], copies: &[u64], counts: &[u32], keys: &mut [u64]) -> TextRead
     requires { ⌜ TablesFit (disksIn (now rack)) (now copies) (now counts) ⌝ }
     requires { ⌜ rackAccepted (disksIn (now rack)) ≡ true ⌝ }
-    requires { ⌜ length (now keys) ≡ rowLength ⌝ }
-    ensures { λ r. ⌜ StoredIn (length (now (rack .entry))) (storedFrom 1 (markedFrom (disksIn (now (rack .entry))) (now (copies .entry)) (now (counts .entry))))
+    requires { ⌜ length (now keys) ≡ mostTransfers ⌝ }
+    ensures { λ r. ⌜ KeysHold (length (now (rack .entry))) (storedFrom 1 (markedFrom (disksIn (now (rack .entry))) (now (copies .entry)) (now (counts .entry))))
         (now (keys .exit)) (textRead r) ⌝ }
 {
     let disks = rack.len();
@@ -50,7 +50,7 @@ fn read_with(
     counts: &mut [u32],
     left: &mut [u64],
 ) -> TextRead
-    requires { ⌜ (length (now rack) ≡ mostDisks) × (length (now keys) ≡ rowLength) × (tables (now copies) (now counts) (now left) ≡ ownTables) ⌝ }
+    requires { ⌜ (length (now rack) ≡ mostDisks) × (length (now keys) ≡ mostTransfers) × (tables (now copies) (now counts) (now left) ≡ ownTables) ⌝ }
     ensures { λ r. ⌜ StoredText (textVerdict (now (text .entry))) (now (rack .exit)) (now (keys .exit)) (textRead r) ⌝ }
 {
     let read = reader::read(text, rack, copies, counts, left);
@@ -62,7 +62,7 @@ fn read_with(
 
 // The same with tables of its own.
 fn read_stored(text: &[u8], rack: &mut [u64], keys: &mut [u64]) -> TextRead
-    requires { ⌜ (length (now rack) ≡ mostDisks) × (length (now keys) ≡ rowLength) ⌝ }
+    requires { ⌜ (length (now rack) ≡ mostDisks) × (length (now keys) ≡ mostTransfers) ⌝ }
     ensures { λ r. ⌜ StoredText (textVerdict (now (text .entry))) (now (rack .exit)) (now (keys .exit)) (textRead r) ⌝ }
 {
     let mut copies = [0u64; 2048];
@@ -117,7 +117,7 @@ fn read_new(
     newkeys: &mut [u64],
 ) -> TextRead
     requires { ⌜ rackAccepted (disksIn (now oldrack)) ≡ true ⌝ }
-    requires { ⌜ (length (now newrack) ≡ mostDisks) × (length (now newkeys) ≡ rowLength) ⌝ }
+    requires { ⌜ (length (now newrack) ≡ mostDisks) × (length (now newkeys) ≡ mostTransfers) ⌝ }
     ensures { λ r. ⌜ StoredNew (textVerdict (now (new .entry))) (disksIn (now (oldrack .entry))) oldcopies (now (newkeys .exit)) (textRead r) ⌝ }
 {
     let read = read_stored(new, newrack, newkeys);
@@ -141,8 +141,8 @@ pub(crate) fn read_texts(
     oldkeys: &mut [u64],
     newkeys: &mut [u64],
 ) -> TextRead
-    requires { ⌜ (length (now oldrack) ≡ mostDisks) × (length (now oldkeys) ≡ rowLength) ⌝ }
-    requires { ⌜ (length (now newrack) ≡ mostDisks) × (length (now newkeys) ≡ rowLength) ⌝ }
+    requires { ⌜ (length (now oldrack) ≡ mostDisks) × (length (now oldkeys) ≡ mostTransfers) ⌝ }
+    requires { ⌜ (length (now newrack) ≡ mostDisks) × (length (now newkeys) ≡ mostTransfers) ⌝ }
     ensures { λ r. ⌜ StoredTexts (textsVerdict (now (old .entry)) (now (new .entry))) (now (oldkeys .exit)) (now (newkeys .exit)) (textRead r) ⌝ }
 {
     let read = read_stored(old, oldrack, oldkeys);

@@ -49,8 +49,8 @@ loop-holds c =
     let pre = c .before .before .before .before .before .before .pre in
     (omega arith, omega arith, refl, refl, record { inFront = record { number = refl; front = refl }; table = pre .0 .4 }, refl, pre .1 .1)
 
-load-requires : tie.Need-load-requires Inv-loop μ-loop
-load-requires c κs =
+place-missing-requires : tie.Need-place-missing-requires Inv-loop μ-loop
+place-missing-requires c κs =
     let at-turn = c .before .before .before .before in
     let l = at-turn .before .loop in
     let start = start-of (at-turn .before) in
@@ -68,21 +68,21 @@ load-requires c κs =
 
 loop-again : tie.Need-loop-again Inv-loop μ-loop
 loop-again c =
-    let at-load = c .before .before .before .before .before .before in
-    let at-turn = at-load .before .before .before .before .before in
+    let at-missing = c .before .before .before .before .before .before in
+    let at-turn = at-missing .before .before .before .before .before in
     let l = at-turn .before .loop in
     let start = start-of (at-turn .before) in
     let less = at-turn .loop-test .taken in
     let old = start .args .old .now in
     let new = start .args .new .now in (
       omega arith,
-      omega (arith, at-load .load .ensures .1 .0, l .inv .1),
-      at-load .load .kept .1 .1 .1 .0 ∙ l .inv .2,
-      at-load .load .kept .1 .1 .1 .1 .0 ∙ l .inv .3,
-      subst (λ (ts : List Transfer). Placed (at-load .load .result) (at-load .load .last .1 .1 .1 .0) (at-load .load .last .1 .1 .1 .1 .0) ts) (placed-more old new (l .i) less)
-          (at-load .load .ensures .0 (placedTo old new (l .i)) (l .inv .4)),
-      at-load .load .kept .1 .1 .1 .1 .1 .0 ∙ l .inv .5,
-      at-load .load .ensures .1 .1,
+      omega (arith, at-missing .place-missing .ensures .1 .0, l .inv .1),
+      at-missing .place-missing .kept .1 .1 .1 .0 ∙ l .inv .2,
+      at-missing .place-missing .kept .1 .1 .1 .1 .0 ∙ l .inv .3,
+      subst (λ (ts : List Transfer). Placed (at-missing .place-missing .result) (at-missing .place-missing .last .1 .1 .1 .0) (at-missing .place-missing .last .1 .1 .1 .1 .0) ts) (placed-more old new (l .i) less)
+          (at-missing .place-missing .ensures .0 (placedTo old new (l .i)) (l .inv .4)),
+      at-missing .place-missing .kept .1 .1 .1 .1 .1 .0 ∙ l .inv .5,
+      at-missing .place-missing .ensures .1 .1,
     )
 
 returns : tie.Need-returns Inv-loop μ-loop
@@ -103,7 +103,7 @@ schedule-spec =
     loop-holds
     (λ c. search needs)
     (λ c. search needs)
-    load-requires
+    place-missing-requires
     (λ c. search needs)
     (λ c. search needs)
     loop-again

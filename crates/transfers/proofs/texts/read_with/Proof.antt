@@ -24,7 +24,7 @@ use Rattle.reader.specs.Promise.{ReadPromise}
 use Rattle.reader.proofs.OwnReading.{read-refused, read-given, formed-read, rack-few, rack-read, copies-read, unused-read}
 use Rattle.reader.proofs.PackedDisks.{take-disks}
 use Rattle.transfers.specs.Stored.{storedFrom}
-use Rattle.transfers.specs.Keys.{TablesFit, StoredIn, StoredText}
+use Rattle.transfers.specs.Keys.{TablesFit, KeysHold, StoredText}
 use Rattle.transfers.specs.Answers.{textRead}
 use Rattle.transfers.proofs.texts.read_with.Statement.{statement}
 use Rattle.transfers.proofs.texts.read_with.Tie as tie
@@ -137,8 +137,8 @@ returns-2 c =
     let number : length (take (disks at-plan) (rack (at-read at-plan))) ≡ length (p .rack) = length-take-le _ _ (few at-plan) ∙ found at-plan .2 in
     subst (λ (w : Verdict Plan). StoredText w (rack (at-read at-plan)) keys v) (sym (found at-plan .1)) (
       ap (λ (n : ℕ). disksIn (take n (rack (at-read at-plan)))) (sym (found at-plan .2)) ∙ rack-is at-plan,
-      subst (λ (cs : List (List Copy)). StoredIn (length (p .rack)) (storedFrom 1 cs) keys v) (copies-are at-plan)
-          (subst (λ (n : ℕ). StoredIn n (storedFrom 1 (markedFrom (disksIn (take (disks at-plan) (rack (at-read at-plan)))) (after (at-read at-plan) .copies) (after (at-read at-plan) .counts))) keys v)
+      subst (λ (cs : List (List Copy)). KeysHold (length (p .rack)) (storedFrom 1 cs) keys v) (copies-are at-plan)
+          (subst (λ (n : ℕ). KeysHold n (storedFrom 1 (markedFrom (disksIn (take (disks at-plan) (rack (at-read at-plan)))) (after (at-read at-plan) .copies) (after (at-read at-plan) .counts))) keys v)
           number (at-stored .stored-copies .ensures)),
     )
 

@@ -1,4 +1,4 @@
--- `transfers::load` meets its contract: the copy is stored already, or its transfer is placed.
+-- `transfers::place_missing` meets its contract: the copy is stored already, or its transfer is placed.
 use borrow.Author.Needs.{needs}
 use mathlib.Core.Path.{_≡_, sym, ap, ap₂, subst, _∙_}
 use mathlib.Core.Bool.{Bool, true, false, cond}
@@ -14,8 +14,8 @@ use Rattle.transfers.specs.Schedule.{Transfer, transferFor}
 use Rattle.transfers.specs.Transfers.{transferEntry}
 use Rattle.transfers.specs.Keys.{storedIn, EntriesOf, Placed, placedWith}
 use Rattle.transfers.proofs.Mapped.{map-last}
-use Rattle.transfers.proofs.schedule.load.Statement.{statement}
-use Rattle.transfers.proofs.schedule.load.Tie as tie
+use Rattle.transfers.proofs.schedule.place_missing.Statement.{statement}
+use Rattle.transfers.proofs.schedule.place_missing.Tie as tie
 
 -- The entries with one more.
 entries-more : (n : ℕ) (entries : List ℕ) (placed : List Transfer) (t : Transfer) (entry : ℕ)
@@ -63,8 +63,8 @@ returns-2 c =
       (omega arith, at-place .place .ensures .1),
     )
 
-pub load-spec : {M : Type 1} → statement M
-load-spec =
+pub place-missing-spec : {M : Type 1} → statement M
+place-missing-spec =
     tie.close
     (tie.spec
     (λ c κs. search needs)
