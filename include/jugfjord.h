@@ -249,7 +249,7 @@ struct jugfjord_transferred {
  * Refusals 8 and 9 with the line for the old text, then 8 and 9 with the line for the new text, 14, 15, and 7 where the list is
  * shorter than the transfers or there are fewer than nine rows. 8 and 9 do not say which text they are of: `jugfjord_judge` of
  * the old text does. Where it refuses that text, it has the same two numbers and they are of the old text; else they are of the
- * new one. Less than 128 KiB of stack. */
+ * new one. Less than 80 KiB of stack. */
 struct jugfjord_transferred jugfjord_transfers(const uint8_t *old_text, size_t old_count,
                                                const uint8_t *new_text, size_t new_count,
                                                uint64_t *transfers, size_t transfers_count,

@@ -8,30 +8,21 @@ ghost use Rattle.transfers.specs.Counts.{ends, countTable, countAt};
 ghost use Rattle.transfers.specs.Transfers.{transferIn};
 ghost use Rattle.transfers.specs.Keys.{TransferFits, mostTransfers};
 
-// The table with one transfer more from a source to a destination.
-fn count_transfer(table: [[u32; 9]; 9], source: usize, destination: usize) -> [[u32; 9]; 9]
-    requires { ⌜ (source < ends) × (destination < ends) × (countAt table source destination < 4294967295) ⌝ }
-    ensures { λ r. ⌜ r ≡ set table source (set (getD table source []) destination (countAt table source destination + 1)) ⌝ }
-{
-    let mut more = table;
-    more[source][destination] = table[source][destination] + 1;
-    more
-}
-
-// The counts of some transfers: those before `i` are counted.
-pub(crate) fn count_transfers(entries: &[u64]) -> [[u32; 9]; 9]
-    requires { ⌜ Each TransferFits (map transferIn (now entries)) × (length (now entries) ≤ mostTransfers) ⌝ }
+// A table without counts, with those of some transfers: those before `i` are counted. It comes and goes by value.
+pub(crate) fn count_transfers(table: [[u32; 9]; 9], entries: &[u64]) -> [[u32; 9]; 9]
+    requires { ⌜ (table ≡ countTable []) × Each TransferFits (map transferIn (now entries)) × (length (now entries) ≤ mostTransfers) ⌝ }
     ensures { λ r. ⌜ r ≡ countTable (map transferIn (now (entries .entry))) ⌝ }
 {
-    let mut table = [[0u32; 9]; 9];
+    let mut counts = table;
     let mut i = 0;
     while i < entries.len() {
         let above = entries[i] / 65536;
-        let more = count_transfer(table, (above % 256) as usize, (above / 256 % 256) as usize);
-        table = more;
+        let source = (above % 256) as usize;
+        let destination = (above / 256 % 256) as usize;
+        counts[source][destination] = counts[source][destination] + 1;
         i += 1;
     }
-    table
+    counts
 }
 
 // Stores the table in the first nine rows: those before `i` are there.

@@ -124,7 +124,7 @@ fn transfers_through(
     }
     let listed = &entries[..n];
     put_entries(listed, list);
-    put_rows(count_transfers(listed), counts);
+    put_rows(count_transfers([[0u32; 9]; 9], listed), counts);
     answer
 }
 

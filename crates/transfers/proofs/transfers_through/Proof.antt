@@ -84,6 +84,7 @@ count-transfers-requires : tie.Need-count-transfers-requires
 count-transfers-requires c κs =
     let at-answer = c .before .before .before .before .before .before .before .before in
     let a = start at-answer .args in (
+      refl,
       worked-fits (a .old .now) (a .new .now) (entries at-answer) (numbers at-answer) (worked at-answer) refl .0,
       omega (
         arith,
