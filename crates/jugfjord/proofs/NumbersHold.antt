@@ -3,7 +3,7 @@ use mathlib.Core.Path.{_≡_, refl}
 use Rattle.refusal.specs.Verdict.{Numbers}
 use Rattle.placement.specs.Planning.{PlanSums, sums}
 use Rattle.plan_text.specs.ReadCall.{Told, told}
-use Rattle.transfers.specs.Transfers.{Sums, sums as transferSums}
+use Rattle.transfer_schedule.specs.Transfers.{Sums, sums as transferSums}
 use Rattle.jugfjord.specs.Numbers.{plannedFields, writtenFields, readFields, transferredFields}
 
 pub planned-holds :

@@ -5,7 +5,7 @@ use Rattle.placement.specs.Planning.{PlanSums, sums}
 use Rattle.plan_text.specs.ReadCall.{Told, told}
 use Rattle.jugfjord.specs.declared.planning.Planned.{Planned}
 use Rattle.jugfjord.specs.declared.reading.ReadPlan.{ReadPlan}
-use Rattle.transfers.specs.Transfers.{Sums, sums as transferSums}
+use Rattle.transfer_schedule.specs.Transfers.{Sums, sums as transferSums}
 use Rattle.jugfjord.specs.declared.writing.WrittenNumbers.{WrittenNumbers}
 use Rattle.jugfjord.specs.declared.transferring.Transferred.{Transferred}
 

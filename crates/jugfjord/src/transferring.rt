@@ -2,7 +2,7 @@
 use refusal::Refusal;
 use transfers::TransfersAnswer;
 ghost use mathlib.Core.Path.{_≡_};
-ghost use Rattle.transfers.specs.TransfersPromise.{CountedPromise};
+ghost use Rattle.transfer_schedule.specs.TransfersPromise.{CountedPromise};
 ghost use Rattle.transfers.specs.Answers.{transferNumbers};
 ghost use Rattle.transfers.specs.declared.answer.TransfersAnswer.the-variants.{Refused};
 ghost use Rattle.jugfjord.specs.Numbers.{transferredFields};

@@ -2,6 +2,7 @@
 use mathlib.Core.Path.{_≡_, refl, sym, ap, ap₂, subst, _∙_}
 use mathlib.Core.Bool.{Bool, true, false, cond, not, _&&_, _||_}
 use mathlib.Core.List.{List, [], _∷_, _++_}
+use mathlib.Core.Logic.{_⊎_, inl, inr}
 use Prim.Native.Nat.{ℕ, zero, suc, _+_, _-_, _*_, _≤_, _<_}
 use native.Mathlib.Numerals.{add-one}
 use native.Mathlib.Omega.{arith}
@@ -11,9 +12,9 @@ use lib.ListN.{length, getD, set, length-set}
 use lib.Seq.{getD-set-same, getD-set-other}
 use Rattle.placement.proofs.Tests.{by-test}
 use Rattle.placement.proofs.Conjunctions.{cond-true, cond-false, and-holds}
-use Rattle.transfers.specs.Schedule.{Transfer, takesPart, busyIn, bothFree, earliestFrom}
-use Rattle.transfers.specs.Counts.{ends}
-use Rattle.transfers.specs.Keys.{rowLength, busyPlaces, flag, BusyTable, BusyTo}
+use Rattle.transfer_schedule.specs.Schedule.{Transfer, takesPart, busyIn, bothFree, earliestFrom}
+use Rattle.transfer_schedule.specs.Counts.{ends}
+use Rattle.transfers.specs.Keys.{rowLength, busyPlaces, flag, BusyTable, NoneFree}
 
 -- Disjunctions.
 or-false : (b : Bool) → (b || false) ≡ b
@@ -27,6 +28,11 @@ or-true false = refl
 or-assoc : (a b c : Bool) → ((a || b) || c) ≡ (a || (b || c))
 or-assoc true b c = refl
 or-assoc false b c = refl
+
+-- A conjunction whose second part fails.
+and-second : (a b : Bool) → b ≡ false → (a && b) ≡ false
+and-second true b e = e
+and-second false b e = refl
 
 -- A flag is 1 where the test holds.
 flag-one : (b : Bool) → flag b ≡ 1 → b ≡ true
@@ -66,22 +72,33 @@ module _ (n r : ℕ) (less : r < n) (placed : List Transfer) (source destination
       ∙ cond-false (bothFree placed source destination (suc r)) _ _ busy
       ∙ ap (λ (k : ℕ). earliestFrom (n - (r + 1)) placed source destination (suc k)) (sym (add-one r))
 
--- Rounds in which the source is busy are passed.
-pub earliest-passed :
-    (busy : List ℕ) (placed : List Transfer) → BusyTable busy placed → (n source destination : ℕ) → source < ends → n ≤ rowLength
-    → (k : ℕ) → k ≤ n → BusyTo busy source k → earliestFrom n placed source destination 1 ≡ earliestFrom (n - k) placed source destination (suc k)
-earliest-passed busy placed t n source destination s few zero up ones =
-    ap (λ (m : ℕ). earliestFrom m placed source destination 1) (let same : n ≡ n - 0 = omega arith in same)
-earliest-passed busy placed t n source destination s few (suc k) up ones =
-    earliest-passed busy placed t n source destination s few k (omega arith) (λ r h. ones r (omega arith))
-    ∙ subst (λ (m : ℕ). earliestFrom (n - k) placed source destination (suc k) ≡ earliestFrom (n - m) placed source destination (suc m)) (add-one k)
-    (earliest-next n k (omega arith) placed source destination not-free)
+-- A round in which one of the ends is busy is not free,
+not-free :
+    (busy : List ℕ) (placed : List Transfer) → BusyTable busy placed → (source destination : ℕ) → source < ends → destination < ends
+    → (r : ℕ) → r < rowLength → (getD busy (source * rowLength + r) 0 ≡ 1) ⊎ (getD busy (destination * rowLength + r) 0 ≡ 1)
+    → bothFree placed source destination (suc r) ≡ false
+not-free busy placed t source destination s d r within one = go one
   where
-    taken : busyIn placed source (suc k) ≡ true
-    taken = flag-one (busyIn placed source (suc k)) (sym (t .rows source k s (omega arith)) ∙ ones k (omega arith))
+    taken : (end : ℕ) → end < ends → getD busy (end * rowLength + r) 0 ≡ 1 → not (busyIn placed end (suc r)) ≡ false
+    taken end few one = ap not (flag-one (busyIn placed end (suc r)) (sym (t .rows end r few within) ∙ one))
 
-    not-free : bothFree placed source destination (suc k) ≡ false
-    not-free = ap (λ (b : Bool). not b && not (busyIn placed destination (suc k))) taken
+    go : (getD busy (source * rowLength + r) 0 ≡ 1) ⊎ (getD busy (destination * rowLength + r) 0 ≡ 1)
+        → bothFree placed source destination (suc r) ≡ false
+    go (inl one) = ap (λ (b : Bool). b && not (busyIn placed destination (suc r))) (taken source s one)
+    go (inr one) = and-second (not (busyIn placed source (suc r))) (not (busyIn placed destination (suc r))) (taken destination d one)
+
+-- so that such rounds are passed.
+pub earliest-passed :
+    (busy : List ℕ) (placed : List Transfer) → BusyTable busy placed → (n source destination : ℕ) → source < ends → destination < ends
+    → n ≤ rowLength → (k : ℕ) → k ≤ n → NoneFree busy source destination k
+    → earliestFrom n placed source destination 1 ≡ earliestFrom (n - k) placed source destination (suc k)
+earliest-passed busy placed t n source destination s d few zero up none =
+    ap (λ (m : ℕ). earliestFrom m placed source destination 1) (let same : n ≡ n - 0 = omega arith in same)
+earliest-passed busy placed t n source destination s d few (suc k) up none =
+    earliest-passed busy placed t n source destination s d few k (omega arith) (λ r h. none r (omega arith))
+    ∙ subst (λ (m : ℕ). earliestFrom (n - k) placed source destination (suc k) ≡ earliestFrom (n - m) placed source destination (suc m)) (add-one k)
+    (earliest-next n k (omega arith) placed source destination
+    (not-free busy placed t source destination s d k (omega arith) (none k (omega arith))))
 
 -- Behind all n rounds it is the next one.
 pub earliest-none : (n r : ℕ) (placed : List Transfer) (source destination : ℕ) → r ≡ n → n + 1 ≡ earliestFrom (n - r) placed source destination (suc r)

@@ -1,16 +1,24 @@
--- Rounds that are known to be busy from the first on: one transfer more.
+-- Rounds that are known to be busy from the first on: which are not free at two ends, and one end busy in one round more.
 use mathlib.Core.Path.{_≡_, refl, sym, ap, subst, _∙_}
 use mathlib.Core.Bool.{Bool, true, false, cond}
 use mathlib.Core.List.{List}
-use Prim.Native.Nat.{ℕ, _+_, _-_, _*_, _≤_, _<_}
+use mathlib.Core.Logic.{_⊎_, inl, inr}
+use Prim.Native.Nat.{ℕ, _+_, _-_, _*_, _≤_, _<_, max}
 use native.Mathlib.Omega.{arith}
 use borrow.Author.Tests.{eqb-true, eqb-false}
 use lib.Dec.{eqb}
 use lib.ListN.{length, getD, set, length-set}
 use lib.Seq.{getD-set-same, getD-set-other}
 use Rattle.placement.proofs.Tests.{by-test, by-order}
-use Rattle.transfers.specs.Counts.{ends}
-use Rattle.transfers.specs.Keys.{rowLength, busyPlaces, BusyTo, FullTable}
+use Rattle.transfer_schedule.specs.Counts.{ends}
+use Rattle.transfers.specs.Keys.{rowLength, busyPlaces, BusyTo, FullTable, nextFull, NoneFree}
+
+-- Up to the larger of two ends' numbers no round is free at both.
+pub none-free :
+    (busy full : List ℕ) (n : ℕ) → FullTable busy full n → (source destination : ℕ) → source < ends → destination < ends
+    → NoneFree busy source destination (max (getD full source 0) (getD full destination 0))
+none-free busy full n table source destination s d r less =
+    by-order r (getD full source 0) (λ lower. inl (table .ones source s r lower)) (λ upper. inr (table .ones destination d r (omega arith)))
 
 -- A place that is 1 stays so.
 one-kept : (busy : List ℕ) (i k : ℕ) → k < length busy → getD busy k 0 ≡ 1 → getD (set busy i 1) k 0 ≡ 1
@@ -19,60 +27,53 @@ one-kept busy i k inside one =
     (λ e. ap (λ (m : ℕ). getD (set busy m 1) k 0) (sym (eqb-true k i e)) ∙ getD-set-same busy k 1 0 inside)
     (λ e. getD-set-other busy i k 1 0 (eqb-false k i e) ∙ one)
 
-module _ (busy full : List ℕ) (n : ℕ) (table : FullTable busy full n) (wide : length busy ≡ busyPlaces) (source destination round : ℕ) (s : source < ends)
-    (d : destination < ends) (from : 1 ≤ round) (to : round ≤ rowLength) (next : round ≤ n + 1) where
-  abbrev first : ℕ
-  first = source * rowLength + (round - 1)
-
-  abbrev second : ℕ
-  second = destination * rowLength + (round - 1)
-
-  abbrev busier : List ℕ
-  busier = set (set busy first 1) second 1
+module _ (busy full : List ℕ) (n m : ℕ) (table : FullTable busy full n) (wide : length busy ≡ busyPlaces) (end round : ℕ) (own : end < ends)
+    (from : 1 ≤ round) (to : round ≤ rowLength) (next : round ≤ m) (short : n ≤ rowLength) (more : n ≤ m) where
+  abbrev place : ℕ
+  place = end * rowLength + (round - 1)
 
   abbrev mine : ℕ
-  mine = getD full source 0
+  mine = getD full end 0
 
-  abbrev more : ℕ
-  more = cond (eqb (mine + 1) round) round mine
+  -- What is known of an end stays so,
+  kept : (other : ℕ) → other < ends → BusyTo (set busy place 1) other (getD full other 0)
+  kept other few r less =
+      one-kept busy place (other * rowLength + r) (omega (arith, wide, few, less, table .few other few)) (table .ones other few r less)
 
-  kept : (end r : ℕ) → end < ends → r < rowLength → getD busy (end * rowLength + r) 0 ≡ 1 → getD busier (end * rowLength + r) 0 ≡ 1
-  kept end r few within one =
-      one-kept (set busy first 1) second (end * rowLength + r) (omega (arith, length-set busy first 1, wide, few, within))
-      (one-kept busy first (end * rowLength + r) (omega (arith, wide, few, within)) one)
+  -- and of the one that is busy there is one more known where it is the next one.
+  known : (b : Bool) → eqb (mine + 1) round ≡ b → BusyTo (set busy place 1) end (cond b round mine)
+  known false e = kept end own
+  known true e = λ r less.
+      by-order r mine (λ lower. kept end own r lower)
+      (λ upper.
+      let last : r ≡ round - 1 = omega (arith, upper, less, eqb-true (mine + 1) round e) in
+      ap (λ (k : ℕ). getD (set busy place 1) (end * rowLength + k) 0) last ∙ getD-set-same busy place 1 0 (omega (arith, wide, own, from, to)))
 
-  busy-now : getD busier first 0 ≡ 1
-  busy-now =
-      one-kept (set busy first 1) second first (omega (arith, length-set busy first 1, wide, s, from, to)) (getD-set-same busy first 1 0 (omega (arith, wide, s, from, to)))
+  most : (b : Bool) → cond b round mine ≤ m
+  most true = next
+  most false = omega (arith, table .few end own)
 
-  ones-others : (end : ℕ) → end < ends → getD full end 0 ≤ rowLength → BusyTo busier end (getD full end 0)
-  ones-others end few short r less = kept end r few (omega arith) (table .ones end few r less)
+  at-own : (other : ℕ) → other ≡ end → getD (set full end (nextFull mine round)) other 0 ≡ nextFull mine round
+  at-own other e =
+      ap (λ (k : ℕ). getD (set full end (nextFull mine round)) k 0) e ∙ getD-set-same full end (nextFull mine round) 0 (omega (arith, own, table .wide))
 
-  ones-mine : (b : Bool) → eqb (mine + 1) round ≡ b → mine ≤ rowLength → BusyTo busier source (cond b round mine)
-  ones-mine false e short = ones-others source s short
-  ones-mine true e short = λ r less.
-      by-order r mine (λ lower. ones-others source s short r lower)
-      (λ upper. ap (λ (k : ℕ). getD busier (source * rowLength + k) 0) (let last : r ≡ round - 1 = omega (arith, upper, less, eqb-true (mine + 1) round e) in last) ∙ busy-now)
+  at-other : (other : ℕ) → (other ≡ end → ⊥) → getD (set full end (nextFull mine round)) other 0 ≡ getD full other 0
+  at-other other apart = getD-set-other full end other (nextFull mine round) 0 apart
 
-  most : (b : Bool) → eqb (mine + 1) round ≡ b → cond b round mine ≤ n + 1
-  most true e = next
-  most false e = omega (arith, table .few source s)
-
-  -- The source is known to be busy in one round more where it is the next one.
-  pub full-more : n < rowLength → FullTable busier (set full source more) (n + 1)
-  full-more short = record {
-    wide = length-set full source more ∙ table .wide;
-    few = λ end few. by-test (eqb end source)
-        (λ e. subst (λ (k : ℕ). k ≤ n + 1) (sym (at-mine end (eqb-true end source e))) (most (eqb (mine + 1) round) refl))
-        (λ e. subst (λ (k : ℕ). k ≤ n + 1) (sym (at-other end (eqb-false end source e))) (omega (arith, table .few end few)));
-    ones = λ end few. by-test (eqb end source)
-        (λ e. subst (BusyTo busier end) (sym (at-mine end (eqb-true end source e)))
-        (subst (λ (k : ℕ). BusyTo busier k more) (sym (eqb-true end source e)) (ones-mine (eqb (mine + 1) round) refl (omega (arith, table .few source s)))))
-        (λ e. subst (BusyTo busier end) (sym (at-other end (eqb-false end source e))) (ones-others end few (omega (arith, table .few end few))));
+  full-more : FullTable (set busy place 1) (set full end (nextFull mine round)) m
+  full-more = record {
+    wide = length-set full end (nextFull mine round) ∙ table .wide;
+    few = λ other few. by-test (eqb other end)
+        (λ e. subst (λ (k : ℕ). k ≤ m) (sym (at-own other (eqb-true other end e))) (most (eqb (mine + 1) round)))
+        (λ e. subst (λ (k : ℕ). k ≤ m) (sym (at-other other (eqb-false other end e))) (omega (arith, table .few other few)));
+    ones = λ other few. by-test (eqb other end)
+        (λ e. subst (BusyTo (set busy place 1) other) (sym (at-own other (eqb-true other end e)))
+        (subst (λ (k : ℕ). BusyTo (set busy place 1) k (nextFull mine round)) (sym (eqb-true other end e)) (known (eqb (mine + 1) round) refl)))
+        (λ e. subst (BusyTo (set busy place 1) other) (sym (at-other other (eqb-false other end e))) (kept other few));
   }
-    where
-      at-mine : (end : ℕ) → end ≡ source → getD (set full source more) end 0 ≡ more
-      at-mine end e = ap (λ (k : ℕ). getD (set full source more) k 0) e ∙ getD-set-same full source more 0 (omega (arith, s, table .wide))
 
-      at-other : (end : ℕ) → (end ≡ source → ⊥) → getD (set full source more) end 0 ≡ getD full end 0
-      at-other end other = getD-set-other full source end more 0 other
+  -- So it is for the tables after both places are stored.
+  pub full-after :
+      {busy′ full′ : List ℕ} → busy′ ≡ set busy place 1 → full′ ≡ set full end (nextFull mine round) → FullTable busy′ full′ m
+  full-after {busy′} same known =
+      subst (λ (f : List ℕ). FullTable busy′ f m) (sym known) (subst (λ (b : List ℕ). FullTable b (set full end (nextFull mine round)) m) (sym same) full-more)

@@ -1,11 +1,11 @@
 -- A list that is overwritten from the front, member by member.
 use mathlib.Core.Path.{_≡_, refl, ap, ap₂, sym, _∙_}
-use mathlib.Core.List.{List, [], _∷_, _++_}
+use mathlib.Core.List.{List, [], _∷_, _++_, append-assoc}
 use Prim.Native.Nat.{ℕ, zero, suc, _+_, _<_}
 use native.Mathlib.Numerals.{add-one}
 use native.Mathlib.Omega.{arith}
 use lib.ListN.{length, take, drop, getD, set}
-use lib.Seq.{take-length}
+use lib.Seq.{take-length, drop-cons, getD-at, set-at}
 
 -- The first i members of one list, and those of the other behind them.
 abbrev pub replacedTo : {A : Type 0} → (new old : List A) → ℕ → List A
@@ -26,3 +26,17 @@ module _ {A : Type 0} (none : A) where
   pub replaced-all : (new old : List A) (i n : ℕ) → i ≡ n → length new ≡ n → replacedTo new old i ≡ new ++ drop n old
   replaced-all new old i n e l =
       ap (λ (k : ℕ). take k new ++ drop k old) (e ∙ sym l) ∙ ap₂ _++_ (take-length new) (ap (λ (k : ℕ). drop k old) l)
+
+-- Behind a front as long as the place, the members are those of the list from the place on.
+module _ (front xs : List ℕ) (i : ℕ) (long : length front ≡ i) (less : i < length xs) where
+  here : front ++ drop i xs ≡ front ++ (getD xs i 0 ∷ drop (i + 1) xs)
+  here = ap (λ (rest : List ℕ). front ++ rest) (rw add-one (drop-cons xs i 0 less))
+
+  -- The next one,
+  pub front-next : getD (front ++ drop i xs) i 0 ≡ getD xs i 0
+  front-next = ap (λ (l : List ℕ). getD l i 0) here ∙ getD-at front (getD xs i 0) (drop (i + 1) xs) 0 i long
+
+  -- and another one in its place, which makes the front longer.
+  pub front-more : (v : ℕ) → set (front ++ drop i xs) i v ≡ (front ++ (v ∷ [])) ++ drop (i + 1) xs
+  front-more v =
+      ap (λ (l : List ℕ). set l i v) here ∙ set-at front (getD xs i 0) (drop (i + 1) xs) v i long ∙ sym (append-assoc front (v ∷ []) (drop (i + 1) xs))

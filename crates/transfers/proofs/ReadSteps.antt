@@ -15,8 +15,9 @@ use Rattle.placement.proofs.Formed.{plan-rack}
 use Rattle.plan_text.specs.Text.{firstLine}
 use Rattle.plan_text.specs.ReadCall.{textVerdict}
 use Rattle.plan_text.proofs.Verdicts.{verdict-wellFormed}
-use Rattle.transfers.specs.Stored.{storedCopies}
-use Rattle.transfers.specs.Transfers.{followedWith, mostTransferDisks, fewDisks, sameLine, racksJudged, Plans, plans, textsVerdict}
+use Rattle.transfer_schedule.specs.Stored.{storedCopies}
+use Rattle.transfer_schedule.specs.Fits.{mostTransferDisks}
+use Rattle.transfer_schedule.specs.Transfers.{followedWith, fewDisks, sameLine, racksJudged, Plans, plans, textsVerdict}
 use Rattle.transfers.specs.Keys.{storedAt, StoredText, StoredNew, StoredTexts}
 
 -- A refusal is no value.

@@ -15,9 +15,9 @@ use Rattle.placement.specs.WellFormed.{Each}
 use Rattle.placement.proofs.Conjunctions.{both-true}
 use Rattle.placement.proofs.Each.{each-append}
 use Rattle.placement.proofs.Tests.{inRange-bounds}
-use Rattle.transfers.specs.Stored.{StoredCopy, stored, ascending, filmsOf, storedFrom}
+use Rattle.transfer_schedule.specs.Stored.{StoredCopy, stored, ascending, filmsOf, storedFrom}
 use Rattle.transfers.specs.Keys.{keyOf, storedIn, storedAt}
-use Rattle.transfers.proofs.Inserted.{ascending-each}
+use Rattle.transfer_schedule.proofs.Inserted.{ascending-each}
 
 -- Disks in range have at most 32 slots each.
 slots-most : (rack : List Disk) → allInRange rack ≡ true → allSlots rack ≤ 32 * length rack

@@ -5,14 +5,17 @@ use Prim.Native.Nat.{ℕ, _≤_}
 use lib.ListN.{length}
 use Rattle.refusal.specs.Verdict.{Verdict, given, refused, Numbers}
 use Rattle.placement.specs.WellFormed.{Each}
-use Rattle.transfers.specs.Stored.{StoredCopy, storedCopies}
-use Rattle.transfers.specs.Schedule.{schedule}
-use Rattle.transfers.specs.Transfers.{Plans, textsVerdict, Sums, sums}
-use Rattle.transfers.specs.Keys.{storedAt, CopyFits, Outcome, WorkedOut, StoredTexts}
-use Rattle.transfers.proofs.BothTexts.{BothRead, texts-given}
+use Rattle.transfer_schedule.specs.Stored.{StoredCopy, storedCopies}
+use Rattle.transfer_schedule.specs.Schedule.{schedule}
+use Rattle.transfer_schedule.specs.Words.{Ordered}
+use Rattle.transfer_schedule.specs.Transfers.{Plans, textsVerdict, Sums, sums}
+use Rattle.transfer_schedule.specs.Fits.{CopyFits}
+use Rattle.transfers.specs.Keys.{storedAt, Outcome, WorkedOut, StoredTexts}
+use Rattle.transfer_schedule.proofs.BothTexts.{BothRead, texts-given}
 use Rattle.transfers.proofs.ReadSteps.{IsGiven, sizesOr}
-use Rattle.transfers.proofs.ReadPlans.{old-formed, new-formed}
-use Rattle.transfers.proofs.StoredPlans.{stored-fits}
+use Rattle.transfer_schedule.proofs.ReadPlans.{old-formed, new-formed}
+use Rattle.transfer_schedule.proofs.StoredPlans.{stored-fits}
+use Rattle.transfer_schedule.proofs.Ordered.{stored-ordered}
 
 -- Two plans that were read, whose stored copies stand in front.
 pub record BothAs (verdict : Verdict Plans) (oldkeys newkeys : List ℕ) (m n : ℕ) : Type 0 where
@@ -62,9 +65,16 @@ module _ (old new oldkeys newkeys : List ℕ) (m n : ℕ) (r : BothAs (textsVerd
   read : BothRead old new (r .both)
   read = texts-given old new (r .both) (r .same)
 
-  -- Their copies fit.
+  -- Their copies fit,
   pub olds-fit : Each CopyFits (storedAt m oldkeys)
   olds-fit = subst (Each CopyFits) (sym (r .olds)) (stored-fits (r .both .old) (old-formed old new (r .both) read) (read .firstFew))
 
   pub news-fit : Each CopyFits (storedAt n newkeys)
   news-fit = subst (Each CopyFits) (sym (r .news)) (stored-fits (r .both .new) (new-formed old new (r .both) read) (read .secondFew))
+
+  -- and stand in order.
+  pub olds-ordered : Ordered (storedAt m oldkeys)
+  olds-ordered = subst Ordered (sym (r .olds)) (stored-ordered (r .both .old) (old-formed old new (r .both) read))
+
+  pub news-ordered : Ordered (storedAt n newkeys)
+  news-ordered = subst Ordered (sym (r .news)) (stored-ordered (r .both .new) (new-formed old new (r .both) read))

@@ -8,13 +8,14 @@ use lib.ListN.{length, take, drop}
 use Rattle.refusal.specs.Verdict.{Verdict, given, refused, Numbers}
 use Rattle.placement.specs.Tables.{written}
 use Rattle.placement.specs.WellFormed.{Each}
-use Rattle.transfers.specs.Schedule.{Transfer}
-use Rattle.transfers.specs.Counts.{ends, countTable}
-use Rattle.transfers.specs.Transfers.{Plans, textsVerdict, transfersOf, transfersVerdict, transferEntry, transferIn, Sums, sums, answerTo, listGiven, tableGiven, transferring, entriesAfter, tableAfter}
-use Rattle.transfers.specs.Keys.{TransferFits, Outcome, WorkedOut}
-use Rattle.transfers.proofs.Entries.{transfers-entries}
-use Rattle.transfers.proofs.BothTexts.{texts-late}
-use Rattle.transfers.proofs.Judged.{judged-refused, judged-short, judged-given, answer-by, list-by, table-by}
+use Rattle.transfer_schedule.specs.Schedule.{Transfer}
+use Rattle.transfer_schedule.specs.Counts.{ends, countTable}
+use Rattle.transfer_schedule.specs.Transfers.{Plans, textsVerdict, transfersOf, transfersVerdict, transferEntry, transferIn, Sums, sums, answerTo, listGiven, tableGiven, transferring, entriesAfter, tableAfter}
+use Rattle.transfer_schedule.specs.Fits.{TransferFits}
+use Rattle.transfers.specs.Keys.{Outcome, WorkedOut}
+use Rattle.transfer_schedule.proofs.Entries.{transfers-entries}
+use Rattle.transfer_schedule.proofs.BothTexts.{texts-late}
+use Rattle.transfer_schedule.proofs.Judged.{judged-refused, judged-short, judged-given, answer-by, list-by, table-by}
 
 -- The answer, the list and the table are the definition's.
 abbrev pub Keeps :

@@ -2,7 +2,7 @@
 use Prim.Native.Nat.{ℕ}
 use Rattle.refusal.specs.Verdict.{Verdict, given, Numbers, answered}
 use Rattle.refusal.specs.Numbers.{refusalOf}
-use Rattle.transfers.specs.Transfers.{Sums, sums}
+use Rattle.transfer_schedule.specs.Transfers.{Sums, sums}
 use Rattle.transfers.specs.declared.answer.TransfersAnswer.{TransfersAnswer}
 use Rattle.transfers.specs.declared.answer.TransfersAnswer.the-variants.{InRounds, Refused}
 use Rattle.transfers.specs.declared.answer.TextRead.{TextRead}

@@ -3,6 +3,8 @@ use Prim.Native.Nat.{ℕ, suc, _+_, _*_, _/_, _%_, _≤_, _<_}
 use mathlib.Core.Path.{_≡_}
 use mathlib.Core.Bool.{Bool, true, cond}
 use mathlib.Core.List.{List, [], _∷_, _++_, map}
+use mathlib.Core.Logic.{_⊎_}
+use lib.Dec.{eqb}
 use lib.ListN.{length, take, getD}
 use Rattle.refusal.specs.Verdict.{Verdict, given, refused, Numbers}
 use Rattle.placement.specs.Rack.{Disk}
@@ -11,10 +13,11 @@ use Rattle.placement.specs.Plan.{Plan}
 use Rattle.placement.specs.WellFormed.{Each}
 use Rattle.plan_text.specs.Held.{unusedZeroFrom}
 use Rattle.writer.specs.Call.{CopyRoom}
-use Rattle.transfers.specs.Stored.{StoredCopy, stored, isStored, storedCopies}
-use Rattle.transfers.specs.Schedule.{Transfer, busyIn, earliestFrom, transferFor}
-use Rattle.transfers.specs.Counts.{ends}
-use Rattle.transfers.specs.Transfers.{mostTransferDisks, racksJudged, Plans, transfersOf, transferEntry, Sums, sums, sumsOf}
+use Rattle.transfer_schedule.specs.Stored.{StoredCopy, stored, storedCopies}
+use Rattle.transfer_schedule.specs.Schedule.{Transfer, transfer, busyIn, earliestFrom, earliest, transferFor, placedWith}
+use Rattle.transfer_schedule.specs.Counts.{ends}
+use Rattle.transfer_schedule.specs.Fits.{mostTransferDisks, mostTransfers, TransferFits}
+use Rattle.transfer_schedule.specs.Transfers.{racksJudged, Plans, transfersOf, transferEntry, Sums, sums, sumsOf}
 
 -- A stored copy as one number, which ascends by disk, then film: the film has the lowest 24 bits.
 abbrev pub keyOf : StoredCopy → ℕ
@@ -32,28 +35,12 @@ pub record TablesFit (rack : List Disk) (copies counts : List ℕ) : Type 0 wher
   pub room : CopyRoom rack copies counts
   pub unused : unusedZeroFrom rack copies counts ≡ true
 
--- The most transfers, and the most stored copies of a rack of 8 disks: 32 slots each.
-abbrev pub mostTransfers : ℕ
-mostTransfers = 256
-
 -- A row of the table of busy rounds for each end, with a place for each round.
 abbrev pub rowLength : ℕ
-rowLength = 256
+rowLength = mostTransfers
 
 abbrev pub busyPlaces : ℕ
 busyPlaces = 2304
-
--- A stored copy of a rack of at most 8 disks, with a film of 16 bits.
-pub record CopyFits (c : StoredCopy) : Type 0 where
-  pub disk : c .disk ≤ mostTransferDisks
-  pub film : c .film < 65536
-
--- A transfer whose numbers have room in its entry.
-pub record TransferFits (t : Transfer) : Type 0 where
-  pub source : t .source < ends
-  pub destination : t .destination < ends
-  pub film : t .film < 65536
-  pub round : t .round ≤ rowLength
 
 abbrev pub flag : Bool → ℕ
 flag b = cond b 1 0
@@ -73,26 +60,26 @@ pub record FullTable (busy full : List ℕ) (n : ℕ) : Type 0 where
   pub few : (end : ℕ) → end < ends → getD full end 0 ≤ n
   pub ones : (end : ℕ) → end < ends → BusyTo busy end (getD full end 0)
 
--- No copy has the film.
-abbrev pub NoneOf : (film : ℕ) → List StoredCopy → Type 0
-NoneOf film cs = Each (λ (c : StoredCopy). c .film ≡ film → ⊥) cs
+-- With one more that is busy there is one more known where it is the next one.
+abbrev pub nextFull : (full round : ℕ) → ℕ
+nextFull full round = cond (eqb (full + 1) round) round full
 
--- Films are noted by their remainders: where nothing is noted, no copy has the film.
-abbrev pub notedPlaces : ℕ
-notedPlaces = 4096
-
-pub record Noted (noted : List ℕ) (cs : List StoredCopy) : Type 0 where
-  pub wide : length noted ≡ notedPlaces
-  pub none : (film : ℕ) → getD noted (film % notedPlaces) 0 ≡ 0 → NoneOf film cs
+-- In each of the first n rounds one of two ends is busy.
+abbrev pub NoneFree : (busy : List ℕ) → (source destination n : ℕ) → Type 0
+NoneFree busy source destination n =
+    (r : ℕ) → r < n → (getD busy (source * rowLength + r) 0 ≡ 1) ⊎ (getD busy (destination * rowLength + r) 0 ≡ 1)
 
 -- A round is the earliest of the first n where both ends are free, or the one behind them, for all transfers that the table says.
 abbrev pub EarliestFor : (busy : List ℕ) → (source destination n round : ℕ) → Type 0
 EarliestFor busy source destination n round =
     (placed : List Transfer) → BusyTable busy placed → round ≡ earliestFrom n placed source destination 1
 
--- Transfers with that of one copy more.
-abbrev pub placedWith : (old : List StoredCopy) → StoredCopy → List Transfer → List Transfer
-placedWith old c placed = placed ++ (transferFor old placed c ∷ [])
+-- A round is the earliest behind n transfers, for all of them that the table says, and the table then has a transfer in it, whatever its film.
+abbrev pub RoundTaken : (source destination n : ℕ) → (busy busy′ : List ℕ) → (round : ℕ) → Type 0
+RoundTaken source destination n busy busy′ round =
+    (placed : List Transfer) → length placed ≡ n → BusyTable busy placed
+    → (round ≡ earliest placed source destination)
+    × ((film : ℕ) → BusyTable busy′ (placed ++ (transfer source destination film round ∷ [])))
 
 -- An entry is that of the transfer of a copy behind n others, for all of them that the table says, and the table then has it too.
 abbrev pub PlacedNext : (old : List StoredCopy) → StoredCopy → (n : ℕ) → (busy busy′ : List ℕ) → (entry : ℕ) → Type 0
@@ -100,21 +87,23 @@ PlacedNext old c n busy busy′ entry =
     (placed : List Transfer) → length placed ≡ n → BusyTable busy placed
     → (entry ≡ transferEntry (transferFor old placed c)) × BusyTable busy′ (placedWith old c placed)
 
--- The first n entries are those of these transfers.
-pub record EntriesOf (n : ℕ) (entries : List ℕ) (placed : List Transfer) : Type 0 where
-  pub number : n ≡ length placed
-  pub front : take n entries ≡ map transferEntry placed
+-- No copy has the film.
+abbrev pub NoneOf : (film : ℕ) → List StoredCopy → Type 0
+NoneOf film cs = Each (λ (c : StoredCopy). c .film ≡ film → ⊥) cs
 
--- The same, with the table of busy rounds.
-pub record Placed (n : ℕ) (entries busy : List ℕ) (placed : List Transfer) : Type 0 where
-  pub inFront : EntriesOf n entries placed
-  pub table : BusyTable busy placed
+-- Where the search of a film starts, by its remainder: no copy before that place has the film.
+abbrev pub startPlaces : ℕ
+startPlaces = 4096
 
--- Behind n transfers the copy's own is placed, unless the old plan has the copy.
-abbrev pub PlacedMissing : (old : List StoredCopy) → StoredCopy → (n : ℕ) → (entries busy : List ℕ) → (n′ : ℕ) → (entries′ busy′ : List ℕ) → Type 0
-PlacedMissing old c n entries busy n′ entries′ busy′ =
-    (placed : List Transfer) → Placed n entries busy placed
-    → Placed n′ entries′ busy′ (cond (isStored c old) placed (placedWith old c placed))
+pub record SearchStarts (starts : List ℕ) (cs : List StoredCopy) : Type 0 where
+  pub wide : length starts ≡ startPlaces
+  pub none : (film : ℕ) → NoneOf film (take (getD starts (film % startPlaces) 0) cs)
+
+-- The keys before a place are below a key, and the one there is not.
+pub record Passed (keys : List ℕ) (key at : ℕ) : Type 0 where
+  pub within : at ≤ length keys
+  pub below : Each (λ k. k < key) (take at keys)
+  pub next : at < length keys → key ≤ getD keys at 0
 
 -- The disks of a rack, and how many keys stand in front for these copies, unless the rack has more than 8 disks.
 abbrev pub KeysHold : (disks : ℕ) → List StoredCopy → (keys : List ℕ) → Verdict (ℕ × ℕ) → Type 0

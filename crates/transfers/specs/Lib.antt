@@ -1,9 +1,2 @@
-pub mod Stored
-pub mod Schedule
-pub mod Counts
-pub mod Transfers
-pub mod Words
-pub mod TransfersPromise
 pub mod Keys
 pub mod Answers
-pub mod TransferExamples

@@ -4,9 +4,9 @@ ghost use mathlib.Core.List.{[], map, _++_};
 ghost use Prim.Native.Nat.{_+_, _≤_, _<_};
 ghost use lib.ListN.{length, drop, getD, set};
 ghost use Rattle.placement.specs.WellFormed.{Each};
-ghost use Rattle.transfers.specs.Counts.{ends, countTable, countAt};
-ghost use Rattle.transfers.specs.Transfers.{transferIn};
-ghost use Rattle.transfers.specs.Keys.{TransferFits, mostTransfers};
+ghost use Rattle.transfer_schedule.specs.Counts.{ends, countTable, countAt};
+ghost use Rattle.transfer_schedule.specs.Transfers.{transferIn};
+ghost use Rattle.transfer_schedule.specs.Fits.{TransferFits, mostTransfers};
 
 // A table without counts, with those of some transfers: those before `i` are counted. It comes and goes by value.
 pub(crate) fn count_transfers(table: [[u32; 9]; 9], entries: &[u64]) -> [[u32; 9]; 9]

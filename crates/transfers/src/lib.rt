@@ -1,8 +1,10 @@
 // Transfers from an old plan to a new one, in rounds in which every disk and the loader take part in at most one.
 mod answer; // answer.rt: what transfers answer
 mod count; // count.rt: the table of counts
+mod lacking; // lacking.rt: the new copies that the old plan lacks
 mod rounds; // rounds.rt: which ends are busy in which round
 mod schedule; // schedule.rt: the transfers one after the other
+mod sources; // sources.rt: where a film is copied from
 mod stored; // stored.rt: stored copies as numbers
 mod texts; // texts.rt: the two texts
 
@@ -11,7 +13,7 @@ pub use answer::TransfersAnswer;
 use count::count_transfers;
 use count::put_rows;
 use refusal::Refusal;
-use schedule::transfers_noted;
+use schedule::transfers_between;
 use texts::read_texts;
 ghost use mathlib.Core.Path.{_≡_};
 ghost use mathlib.Core.List.{List, [], _++_};
@@ -19,10 +21,11 @@ ghost use Prim.Native.Nat.{_≤_};
 ghost use lib.ListN.{length, drop};
 ghost use Rattle.placement.specs.Rack.{mostDisks};
 ghost use Rattle.placement.specs.Tables.{written};
-ghost use Rattle.transfers.specs.Counts.{ends};
-ghost use Rattle.transfers.specs.Transfers.{textsVerdict};
-ghost use Rattle.transfers.specs.TransfersPromise.{TransfersPromise, CountsPromise, CountedPromise};
-ghost use Rattle.transfers.specs.Keys.{mostTransfers, BusyTable, FullTable, notedPlaces, WorkedOut};
+ghost use Rattle.transfer_schedule.specs.Counts.{ends};
+ghost use Rattle.transfer_schedule.specs.Transfers.{textsVerdict};
+ghost use Rattle.transfer_schedule.specs.TransfersPromise.{TransfersPromise, CountsPromise, CountedPromise};
+ghost use Rattle.transfer_schedule.specs.Fits.{mostTransfers};
+ghost use Rattle.transfers.specs.Keys.{BusyTable, FullTable, startPlaces, WorkedOut};
 ghost use Rattle.transfers.specs.Answers.{transferNumbers};
 
 // Works out the transfers of two texts, with space to work in.
@@ -34,23 +37,23 @@ fn work_out_with(
     newrack: &mut [u64],
     oldkeys: &mut [u64],
     newkeys: &mut [u64],
-    noted: &mut [u8],
+    starts: &mut [u16],
     busy: &mut [u8],
     full: &mut [u64],
 ) -> TransfersAnswer
     requires { ⌜ (length (now oldrack) ≡ mostDisks) × (length (now oldkeys) ≡ mostTransfers) ⌝ }
     requires { ⌜ (length (now newrack) ≡ mostDisks) × (length (now newkeys) ≡ mostTransfers) ⌝ }
-    requires { ⌜ (length (now entries) ≡ mostTransfers) × BusyTable (now busy) [] × (length (now noted) ≡ notedPlaces) × FullTable (now busy) (now full) 0 ⌝ }
+    requires { ⌜ (length (now entries) ≡ mostTransfers) × (length (now starts) ≡ startPlaces) × BusyTable (now busy) [] × FullTable (now busy) (now full) 0 ⌝ }
     ensures { λ r. ⌜ WorkedOut (textsVerdict (now (old .entry)) (now (new .entry))) (now (entries .exit)) (transferNumbers r) ⌝ }
 {
     let read = read_texts(old, new, oldrack, newrack, oldkeys, newkeys);
     match read {
         TextRead::Declined(refusal) => TransfersAnswer::Refused(refusal),
-        TextRead::Stored { first, second } => transfers_noted(
+        TextRead::Stored { first, second } => transfers_between(
             &oldkeys[..first],
-            noted,
             &newkeys[..second],
             entries,
+            starts,
             busy,
             full,
         ),
@@ -66,7 +69,7 @@ fn work_out(old: &[u8], new: &[u8], entries: &mut [u64]) -> TransfersAnswer
     let mut newrack = [0u64; 64];
     let mut oldkeys = [0u64; 256];
     let mut newkeys = [0u64; 256];
-    let mut noted = [0u8; 4096];
+    let mut starts = [256u16; 4096];
     let mut busy = [0u8; 2304];
     let mut full = [0u64; 9];
     work_out_with(
@@ -77,7 +80,7 @@ fn work_out(old: &[u8], new: &[u8], entries: &mut [u64]) -> TransfersAnswer
         &mut newrack,
         &mut oldkeys,
         &mut newkeys,
-        &mut noted,
+        &mut starts,
         &mut busy,
         &mut full,
     )

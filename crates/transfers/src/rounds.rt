@@ -1,10 +1,12 @@
 // Rounds: a table of a row for each end, which says in which rounds it is busy.
+use crate::stored::larger;
 ghost use mathlib.Core.Path.{_≡_};
 ghost use Prim.Native.Nat.{_+_, _-_, _*_, _≤_, _<_};
-ghost use mathlib.Core.Bool.{cond, _&&_};
+ghost use mathlib.Core.Bool.{_&&_};
 ghost use lib.Dec.{eqb};
-ghost use lib.ListN.{length, set};
-ghost use Rattle.transfers.specs.Keys.{rowLength, busyPlaces, BusyTo, EarliestFor};
+ghost use lib.ListN.{length, getD, set};
+ghost use Rattle.transfer_schedule.specs.Counts.{ends};
+ghost use Rattle.transfers.specs.Keys.{rowLength, busyPlaces, FullTable, nextFull, NoneFree, EarliestFor, RoundTaken};
 
 // Whether two places of the table say that their ends are free.
 fn both_free(source: u8, destination: u8) -> bool
@@ -16,17 +18,11 @@ fn both_free(source: u8, destination: u8) -> bool
     destination == 0
 }
 
-// The earliest of the first n rounds in which both ends are free, or the one behind them: those before `r` are passed. In the first `from` rounds
-// the source is busy.
-pub(crate) fn earliest(
-    busy: &[u8],
-    source: usize,
-    destination: usize,
-    from: usize,
-    n: usize,
-) -> usize
+// The earliest of the first n rounds in which both ends are free, or the one behind them: those before `r` are passed. None of the first
+// `from` rounds is free.
+fn earliest(busy: &[u8], source: usize, destination: usize, from: usize, n: usize) -> usize
     requires { ⌜ length (now busy) ≡ busyPlaces ⌝ }
-    requires { ⌜ (source < 9) × (destination < 9) × (n ≤ rowLength) × (from ≤ n) × BusyTo (now busy) source from ⌝ }
+    requires { ⌜ (source < ends) × (destination < ends) × (n ≤ rowLength) × (from ≤ n) × NoneFree (now busy) source destination from ⌝ }
     ensures { λ r. ⌜ EarliestFor (now (busy .entry)) source destination n r ⌝ }
     ensures { λ r. ⌜ (1 ≤ r) × (r ≤ n + 1) ⌝ }
 {
@@ -40,22 +36,44 @@ pub(crate) fn earliest(
     n + 1
 }
 
-// Makes an end busy in a round.
-pub(crate) fn make_busy(busy: &mut [u8], end: usize, round: usize)
-    requires { ⌜ length (now busy) ≡ busyPlaces ⌝ }
-    requires { ⌜ (end < 9) × (1 ≤ round) × (round ≤ rowLength) ⌝ }
-    ensures { λ _. ⌜ now (busy .exit) ≡ set (now (busy .entry)) («end» * rowLength + («round» - 1)) 1 ⌝ }
-{
-    busy[end * 256 + (round - 1)] = 1;
-}
-
 // How many rounds from the first on are known to be busy, with one more that is.
-pub(crate) fn next_full(full: u64, round: u64) -> u64
-    requires { ⌜ full ≤ rowLength ⌝ }
-    ensures { λ r. ⌜ r ≡ cond (eqb (full + 1) round) round full ⌝ }
+fn next_full(full: u64, round: u64) -> u64
+    requires { ⌜ 1 ≤ round ⌝ }
+    ensures { λ r. ⌜ r ≡ nextFull full round ⌝ }
 {
-    if full + 1 == round {
+    if full == round - 1 {
         return round;
     }
     full
+}
+
+// Makes an end busy in a round.
+fn make_busy(busy: &mut [u8], full: &mut [u64], end: usize, round: usize)
+    requires { ⌜ (length (now busy) ≡ busyPlaces) × (length (now full) ≡ ends) ⌝ }
+    requires { ⌜ (end < ends) × (1 ≤ round) × (round ≤ rowLength) ⌝ }
+    ensures { λ _. ⌜ now (busy .exit) ≡ set (now (busy .entry)) («end» * rowLength + («round» - 1)) 1 ⌝ }
+    ensures { λ _. ⌜ now (full .exit) ≡ set (now (full .entry)) «end» (nextFull (getD (now (full .entry)) «end» 0) «round») ⌝ }
+{
+    busy[end * 256 + (round - 1)] = 1;
+    full[end] = next_full(full[end], round as u64);
+}
+
+// Takes the earliest round for a transfer behind n others: both ends are busy in it from then on.
+pub(crate) fn take_round(
+    busy: &mut [u8],
+    full: &mut [u64],
+    source: usize,
+    destination: usize,
+    n: usize,
+) -> usize
+    requires { ⌜ (length (now busy) ≡ busyPlaces) × FullTable (now busy) (now full) n ⌝ }
+    requires { ⌜ (source < ends) × (destination < ends) × (n < rowLength) ⌝ }
+    ensures { λ r. ⌜ RoundTaken source destination n (now (busy .entry)) (now (busy .exit)) r ⌝ }
+    ensures { λ r. ⌜ (r ≤ n + 1) × FullTable (now (busy .exit)) (now (full .exit)) (n + 1) ⌝ }
+{
+    let from = larger(full[source], full[destination]);
+    let round = earliest(busy, source, destination, from as usize, n);
+    make_busy(busy, full, source, round);
+    make_busy(busy, full, destination, round);
+    round
 }

@@ -14,9 +14,10 @@ ghost use Rattle.placement.specs.Packed.{disksIn};
 ghost use Rattle.placement.specs.Tables.{tables, ownTables};
 ghost use Rattle.placement.specs.Held.{markedFrom};
 ghost use Rattle.plan_text.specs.ReadCall.{textVerdict};
-ghost use Rattle.transfers.specs.Stored.{storedFrom};
-ghost use Rattle.transfers.specs.Transfers.{mostTransferDisks, sameLine, racksJudged, textsVerdict};
-ghost use Rattle.transfers.specs.Keys.{TablesFit, mostTransfers, KeysHold, StoredText, StoredNew, StoredTexts};
+ghost use Rattle.transfer_schedule.specs.Stored.{storedFrom};
+ghost use Rattle.transfer_schedule.specs.Fits.{mostTransfers};
+ghost use Rattle.transfer_schedule.specs.Transfers.{sameLine, racksJudged, textsVerdict};
+ghost use Rattle.transfers.specs.Keys.{TablesFit, KeysHold, StoredText, StoredNew, StoredTexts};
 ghost use Rattle.transfers.specs.Answers.{textRead};
 
 // The disks of a plan and how many keys its stored copies are; none where it has more than 8 disks.

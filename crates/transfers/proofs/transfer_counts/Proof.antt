@@ -3,9 +3,9 @@ use borrow.Author.Needs.{needs}
 use mathlib.Core.Path.{refl}
 use mathlib.Core.List.{[]}
 use lib.ListN.{replicate}
-use Rattle.transfers.specs.Counts.{countTable}
-use Rattle.transfers.proofs.CountsPromise.{counts-promise}
-use Rattle.transfers.proofs.Own.{own-list}
+use Rattle.transfer_schedule.specs.Counts.{countTable}
+use Rattle.transfer_schedule.proofs.CountsPromise.{counts-promise}
+use Rattle.transfer_schedule.proofs.Own.{own-list}
 use Rattle.transfers.proofs.transfer_counts.Statement.{statement}
 use Rattle.transfers.proofs.transfer_counts.Tie as tie
 

@@ -9,14 +9,14 @@ use lib.ListN.{length, take, drop}
 use lib.Seq.{length-take-le}
 use Rattle.refusal.specs.Verdict.{Numbers}
 use Rattle.placement.specs.Tables.{written}
-use Rattle.transfers.specs.Counts.{countTable}
-use Rattle.transfers.specs.Transfers.{transferIn, textsVerdict, Sums, sums}
+use Rattle.transfer_schedule.specs.Counts.{countTable}
+use Rattle.transfer_schedule.specs.Transfers.{transferIn, textsVerdict, Sums, sums}
 use Rattle.transfers.specs.Keys.{WorkedOut}
 use Rattle.transfers.specs.Answers.{transferNumbers}
-use Rattle.transfers.specs.TransfersPromise.{CountedPromise}
+use Rattle.transfer_schedule.specs.TransfersPromise.{CountedPromise}
 use Rattle.transfers.proofs.RefusedAnswers.{refused-some}
 use Rattle.transfers.proofs.WorkedOut.{worked-refused, worked-short, worked-given, worked-fits}
-use Rattle.transfers.proofs.CountsPromise.{counted-promise}
+use Rattle.transfer_schedule.proofs.CountsPromise.{counted-promise}
 use Rattle.transfers.proofs.transfers_through.Statement.{statement}
 use Rattle.transfers.proofs.transfers_through.Tie as tie
 

@@ -5,8 +5,8 @@ use mathlib.Core.List.{[]}
 use Prim.Native.Nat.{ℕ, _+_, _*_}
 use native.Mathlib.Omega.{arith}
 use lib.ListN.{replicate, length-replicate, getD-replicate}
-use Rattle.transfers.specs.Counts.{ends}
-use Rattle.transfers.specs.Keys.{rowLength, busyPlaces, BusyTable, FullTable}
+use Rattle.transfer_schedule.specs.Counts.{ends}
+use Rattle.transfers.specs.Keys.{rowLength, busyPlaces, BusyTable, FullTable, startPlaces}
 use Rattle.transfers.proofs.work_out.Statement.{statement}
 use Rattle.transfers.proofs.work_out.Tie as tie
 
@@ -27,7 +27,7 @@ no-rounds = record {
 
 work-out-with-requires : tie.Need-work-out-with-requires
 work-out-with-requires c κs =
-    ((refl, refl), ((refl, refl), (c .before .before .before .before .before .before .before .before .before .before .before .pre, free-table, refl, no-rounds)))
+    ((refl, refl), ((refl, refl), (c .before .before .before .before .before .before .before .before .before .before .before .pre, length-replicate {A = ℕ} startPlaces 256, free-table, no-rounds)))
 
 pub work-out-spec : {M : Type 1} → statement M
 work-out-spec =

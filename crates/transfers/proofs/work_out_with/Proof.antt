@@ -7,10 +7,10 @@ use native.Mathlib.Omega.{arith}
 use lib.ListN.{length, take}
 use lib.Seq.{length-take-le}
 use Rattle.refusal.specs.Numbers.{numberOf, secondOf}
-use Rattle.transfers.specs.Transfers.{textsVerdict}
+use Rattle.transfer_schedule.specs.Transfers.{textsVerdict}
 use Rattle.transfers.specs.Keys.{StoredTexts}
 use Rattle.transfers.specs.Answers.{transferNumbers, textRead}
-use Rattle.transfers.proofs.TextsSteps.{BothAs, both-as, both-refused, both-worked, olds-fit, news-fit}
+use Rattle.transfers.proofs.TextsSteps.{BothAs, both-as, both-refused, both-worked, olds-fit, news-fit, olds-ordered, news-ordered}
 use Rattle.transfers.proofs.work_out_with.Statement.{statement}
 use Rattle.transfers.proofs.work_out_with.Tie as tie
 
@@ -39,39 +39,40 @@ module _ (c : tie.After-known-told2) where
       both-as (textsVerdict (start .args .old .now) (start .args .new .now)) oldkeys newkeys m n
       (subst (StoredTexts (textsVerdict (start .args .old .now) (start .args .new .now)) oldkeys newkeys) (ap textRead (c .before .read2 .given .1)) (at-read .read-texts .ensures))
 
-slice-reshare-prefix-transfers-noted : tie.Need-slice-reshare-prefix-transfers-noted
-slice-reshare-prefix-transfers-noted c = plans-read c .oldRoom
+slice-reshare-prefix-transfers-between : tie.Need-slice-reshare-prefix-transfers-between
+slice-reshare-prefix-transfers-between c = plans-read c .oldRoom
 
-slice-aggregate-transfers-noted : tie.Need-slice-aggregate-transfers-noted
-slice-aggregate-transfers-noted c = sym (length-take-le _ _ (plans-read (c .before) .oldRoom))
+slice-aggregate-transfers-between : tie.Need-slice-aggregate-transfers-between
+slice-aggregate-transfers-between c = sym (length-take-le _ _ (plans-read (c .before) .oldRoom))
 
-slice-reshare-prefix-transfers-noted-2 : tie.Need-slice-reshare-prefix-transfers-noted-2
-slice-reshare-prefix-transfers-noted-2 c = plans-read (c .before .before) .newRoom
+slice-reshare-prefix-transfers-between-2 : tie.Need-slice-reshare-prefix-transfers-between-2
+slice-reshare-prefix-transfers-between-2 c = plans-read (c .before) .newRoom
 
-slice-aggregate-transfers-noted-2 : tie.Need-slice-aggregate-transfers-noted-2
-slice-aggregate-transfers-noted-2 c = sym (length-take-le _ _ (plans-read (c .before .before .before) .newRoom))
+slice-aggregate-transfers-between-2 : tie.Need-slice-aggregate-transfers-between-2
+slice-aggregate-transfers-between-2 c = sym (length-take-le _ _ (plans-read (c .before .before) .newRoom))
 
-transfers-noted-requires : tie.Need-transfers-noted-requires
-transfers-noted-requires c κs =
+transfers-between-requires : tie.Need-transfers-between-requires
+transfers-between-requires c κs =
     let at-plan = c .before .before .before .before .before .before in
     let a = start at-plan .args in
     let pre = start at-plan .pre in
-    let r = plans-read at-plan in (
+    let r = plans-read at-plan in
+    let kept = at-read at-plan .read-texts .kept in
+    let long = length-take-le (m at-plan) (oldkeys at-plan) (r .oldRoom) in
+    let longer = length-take-le (n at-plan) (newkeys at-plan) (r .newRoom) in (
       (
         olds-fit (a .old .now) (a .new .now) (oldkeys at-plan) (newkeys at-plan) (m at-plan) (n at-plan) r,
-        news-fit (a .old .now) (a .new .now) (oldkeys at-plan) (newkeys at-plan) (m at-plan) (n at-plan) r,
-        omega (
-          arith,
-          length-take-le (n at-plan) (newkeys at-plan) (r .newRoom),
-          r .newRoom,
-          at-read at-plan .read-texts .kept .1 .1 .1 .1 .1 .0,
-          pre .1 .0 .1,
-          pre .1 .1 .0,
-        ),
-        omega (arith, pre .1 .1 .0),
-        pre .1 .1 .1,
+        olds-ordered (a .old .now) (a .new .now) (oldkeys at-plan) (newkeys at-plan) (m at-plan) (n at-plan) r,
+        omega (arith, long, r .oldRoom, kept .1 .1 .1 .1 .0, pre .0 .1),
       ),
-      (pre .1 .1 .2, pre .1 .1 .3),
+      (
+        (
+          news-fit (a .old .now) (a .new .now) (oldkeys at-plan) (newkeys at-plan) (m at-plan) (n at-plan) r,
+          news-ordered (a .old .now) (a .new .now) (oldkeys at-plan) (newkeys at-plan) (m at-plan) (n at-plan) r,
+          omega (arith, longer, r .newRoom, kept .1 .1 .1 .1 .1 .0, pre .1 .0 .1, pre .1 .1 .0),
+        ),
+        pre .1 .1,
+      ),
     )
 
 returns : tie.Need-returns
@@ -89,8 +90,8 @@ returns-2 c =
     let at-made = c .before .before .before .before .before .before .before .before in
     let at-plan = at-made .before .before .before .before .before .before .before in
     let a = start at-plan .args in
-    both-worked (textsVerdict (a .old .now) (a .new .now)) (oldkeys at-plan) (newkeys at-plan) (at-made .transfers-noted .last .1 .1 .1 .0) (m at-plan) (n at-plan)
-    (transferNumbers (at-made .transfers-noted .result)) (plans-read at-plan) (at-made .transfers-noted .ensures)
+    both-worked (textsVerdict (a .old .now) (a .new .now)) (oldkeys at-plan) (newkeys at-plan) (at-made .transfers-between .last .1 .1 .0) (m at-plan) (n at-plan)
+    (transferNumbers (at-made .transfers-between .result)) (plans-read at-plan) (at-made .transfers-between .ensures)
 
 pub work-out-with-spec : {M : Type 1} → statement M
 work-out-with-spec =
@@ -99,11 +100,11 @@ work-out-with-spec =
     (λ c κs. search needs)
     (λ c. search needs)
     (λ c. search needs)
-    slice-reshare-prefix-transfers-noted
-    slice-aggregate-transfers-noted
-    slice-reshare-prefix-transfers-noted-2
-    slice-aggregate-transfers-noted-2
-    transfers-noted-requires
+    slice-reshare-prefix-transfers-between
+    slice-aggregate-transfers-between
+    slice-reshare-prefix-transfers-between-2
+    slice-aggregate-transfers-between-2
+    transfers-between-requires
     (λ c. search needs)
     (λ c. search needs)
     (λ c. search needs)

@@ -1,8 +1,8 @@
 -- `jugfjord::transferring::jugfjord_transfers` keeps the promise of transfers over the numbers of its struct.
 use mathlib.Core.Path.{sym, subst}
 use Rattle.refusal.specs.Verdict.{Numbers}
-use Rattle.transfers.specs.Transfers.{Sums}
-use Rattle.transfers.specs.TransfersPromise.{CountedPromise}
+use Rattle.transfer_schedule.specs.Transfers.{Sums}
+use Rattle.transfer_schedule.specs.TransfersPromise.{CountedPromise}
 use borrow.Author.Needs.{needs}
 use Rattle.jugfjord.proofs.transferring.jugfjord_transfers.Statement.{statement}
 use Rattle.jugfjord.proofs.transferring.jugfjord_transfers.Tie as tie

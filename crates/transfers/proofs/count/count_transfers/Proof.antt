@@ -6,12 +6,12 @@ use Prim.Native.Nat.{ℕ, _+_, _-_, _≤_, _<_}
 use native.Mathlib.Omega.{arith}
 use lib.ListN.{length, take, getD, set, length-map}
 use lib.Seq.{length-take-le, take-all}
-use Rattle.transfers.specs.Schedule.{Transfer}
-use Rattle.transfers.specs.Counts.{countBy, goes, countTable, countAt}
-use Rattle.transfers.specs.Transfers.{transferIn}
-use Rattle.transfers.specs.Keys.{TransferFits}
-use Rattle.transfers.proofs.Mapped.{each-mapped, mapped-more}
-use Rattle.transfers.proofs.TableSum.{table-more, count-at, count-few}
+use Rattle.transfer_schedule.specs.Schedule.{Transfer}
+use Rattle.transfer_schedule.specs.Counts.{countBy, goes, countTable, countAt}
+use Rattle.transfer_schedule.specs.Transfers.{transferIn}
+use Rattle.transfer_schedule.specs.Fits.{TransferFits}
+use Rattle.transfer_schedule.proofs.Mapped.{each-mapped, mapped-more}
+use Rattle.transfer_schedule.proofs.TableSum.{table-more, count-at, count-few}
 use Rattle.transfers.proofs.count.count_transfers.Statement.{statement}
 use Rattle.transfers.proofs.count.count_transfers.Tie as tie
 

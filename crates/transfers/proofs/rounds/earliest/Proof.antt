@@ -8,7 +8,7 @@ use native.Mathlib.Numerals.{add-one}
 use native.Mathlib.Omega.{arith}
 use lib.Dec.{eqb}
 use lib.ListN.{length, getD}
-use Rattle.transfers.specs.Schedule.{Transfer, bothFree, earliestFrom}
+use Rattle.transfer_schedule.specs.Schedule.{Transfer, bothFree, earliestFrom}
 use Rattle.transfers.specs.Keys.{rowLength, BusyTable}
 use Rattle.transfers.proofs.Busy.{places-free, earliest-passed, earliest-found, earliest-next, earliest-none}
 use Rattle.transfers.proofs.rounds.earliest.Statement.{statement}
@@ -48,7 +48,7 @@ loop-holds c =
     let start = c .before in
     let a = start .args in (
       start .pre .1 .3,
-      λ placed t. earliest-passed (a .busy .now) placed t (a .n) (a .source) (a .destination) (start .pre .1 .0) (start .pre .1 .2) (a .from) (start .pre .1 .3)
+      λ placed t. earliest-passed (a .busy .now) placed t (a .n) (a .source) (a .destination) (start .pre .1 .0) (start .pre .1 .1) (start .pre .1 .2) (a .from) (start .pre .1 .3)
           (start .pre .1 .4),
     )
 

@@ -11,8 +11,8 @@ use Rattle.refusal.specs.Verdict.{Verdict, given, unless}
 use Rattle.placement.specs.Packed.{disksIn}
 use Rattle.placement.proofs.PackedRacks.{disks-length}
 use Rattle.plan_text.specs.Text.{firstLine}
-use Rattle.transfers.specs.Transfers.{fewDisks, sameLine, racksJudged}
-use Rattle.transfers.proofs.Lines.{line-numbers}
+use Rattle.transfer_schedule.specs.Transfers.{fewDisks, sameLine, racksJudged}
+use Rattle.transfer_schedule.proofs.Lines.{line-numbers}
 use Rattle.transfers.proofs.texts.judge_racks.Statement.{statement}
 use Rattle.transfers.proofs.texts.judge_racks.Tie as tie
 

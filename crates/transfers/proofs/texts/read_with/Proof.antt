@@ -23,7 +23,7 @@ use Rattle.reader.specs.Answers.{numbersOf}
 use Rattle.reader.specs.Promise.{ReadPromise}
 use Rattle.reader.proofs.OwnReading.{read-refused, read-given, formed-read, rack-few, rack-read, copies-read, unused-read}
 use Rattle.reader.proofs.PackedDisks.{take-disks}
-use Rattle.transfers.specs.Stored.{storedFrom}
+use Rattle.transfer_schedule.specs.Stored.{storedFrom}
 use Rattle.transfers.specs.Keys.{TablesFit, KeysHold, StoredText}
 use Rattle.transfers.specs.Answers.{textRead}
 use Rattle.transfers.proofs.texts.read_with.Statement.{statement}

@@ -6,8 +6,8 @@ use Prim.Native.Nat.{ℕ, _+_, _-_, _≤_}
 use native.Mathlib.Omega.{arith}
 use borrow.Author.Tests.{eq-eqb, ne-eqb}
 use lib.ListN.{length, getD, drop, drop-of-length-le}
-use Rattle.transfers.specs.Transfers.{sameLine}
-use Rattle.transfers.proofs.Lines.{same-lengths, same-fails, same-later}
+use Rattle.transfer_schedule.specs.Transfers.{sameLine}
+use Rattle.transfer_schedule.proofs.Lines.{same-lengths, same-fails, same-later}
 use Rattle.transfers.proofs.texts.same_racks.Statement.{statement}
 use Rattle.transfers.proofs.texts.same_racks.Tie as tie
 

@@ -8,7 +8,7 @@ use lib.ListN.{length, drop, length-append, length-map}
 use Rattle.placement.specs.Packed.{disksIn}
 use Rattle.placement.specs.Held.{markedFrom}
 use Rattle.placement.proofs.PackedRacks.{disks-length}
-use Rattle.transfers.specs.Stored.{storedFrom}
+use Rattle.transfer_schedule.specs.Stored.{storedFrom}
 use Rattle.transfers.specs.Keys.{keyOf}
 use Rattle.transfers.proofs.StoredKeys.{slots-few, keys-read}
 use Rattle.transfers.proofs.texts.stored_copies.Statement.{statement}
