@@ -19,43 +19,32 @@ ghost use mathlib.Core.Path.{_≡_};
 ghost use mathlib.Core.List.{List, [], _++_};
 ghost use Prim.Native.Nat.{_≤_};
 ghost use lib.ListN.{length, drop};
-ghost use Rattle.placement.specs.Rack.{mostDisks};
 ghost use Rattle.placement.specs.Tables.{written};
 ghost use Rattle.transfer_schedule.specs.Counts.{ends};
 ghost use Rattle.transfer_schedule.specs.Transfers.{textsVerdict};
 ghost use Rattle.transfer_schedule.specs.TransfersPromise.{TransfersPromise, CountsPromise, CountedPromise};
 ghost use Rattle.transfer_schedule.specs.Fits.{mostTransfers};
-ghost use Rattle.transfers.specs.Keys.{BusyTable, FullTable, startPlaces, WorkedOut};
+ghost use Rattle.transfers.specs.Keys.{WorkedOut};
 ghost use Rattle.transfers.specs.Answers.{transferNumbers};
 
-// Works out the transfers of two texts, with space to work in.
+// Works out the transfers of two texts, with space for the keys of their copies.
 fn work_out_with(
     old: &[u8],
     new: &[u8],
     entries: &mut [u64],
-    oldrack: &mut [u64],
-    newrack: &mut [u64],
     oldkeys: &mut [u64],
     newkeys: &mut [u64],
-    starts: &mut [u16],
-    busy: &mut [u8],
-    full: &mut [u64],
 ) -> TransfersAnswer
-    requires { ⌜ (length (now oldrack) ≡ mostDisks) × (length (now oldkeys) ≡ mostTransfers) ⌝ }
-    requires { ⌜ (length (now newrack) ≡ mostDisks) × (length (now newkeys) ≡ mostTransfers) ⌝ }
-    requires { ⌜ (length (now entries) ≡ mostTransfers) × (length (now starts) ≡ startPlaces) × BusyTable (now busy) [] × FullTable (now busy) (now full) 0 ⌝ }
+    requires { ⌜ (length (now entries) ≡ mostTransfers) × (length (now oldkeys) ≡ mostTransfers) × (length (now newkeys) ≡ mostTransfers) ⌝ }
     ensures { λ r. ⌜ WorkedOut (textsVerdict (now (old .entry)) (now (new .entry))) (now (entries .exit)) (transferNumbers r) ⌝ }
 {
-    let read = read_texts(old, new, oldrack, newrack, oldkeys, newkeys);
+    let read = read_texts(old, new, oldkeys, newkeys);
     match read {
         TextRead::Declined(refusal) => TransfersAnswer::Refused(refusal),
         TextRead::Stored { first, second } => transfers_between(
             &oldkeys[..first],
             &newkeys[..second],
             entries,
-            starts,
-            busy,
-            full,
         ),
     }
 }
@@ -65,25 +54,9 @@ fn work_out(old: &[u8], new: &[u8], entries: &mut [u64]) -> TransfersAnswer
     requires { ⌜ length (now entries) ≡ mostTransfers ⌝ }
     ensures { λ r. ⌜ WorkedOut (textsVerdict (now (old .entry)) (now (new .entry))) (now (entries .exit)) (transferNumbers r) ⌝ }
 {
-    let mut oldrack = [0u64; 64];
-    let mut newrack = [0u64; 64];
     let mut oldkeys = [0u64; 256];
     let mut newkeys = [0u64; 256];
-    let mut starts = [256u16; 4096];
-    let mut busy = [0u8; 2304];
-    let mut full = [0u64; 9];
-    work_out_with(
-        old,
-        new,
-        entries,
-        &mut oldrack,
-        &mut newrack,
-        &mut oldkeys,
-        &mut newkeys,
-        &mut starts,
-        &mut busy,
-        &mut full,
-    )
+    work_out_with(old, new, entries, &mut oldkeys, &mut newkeys)
 }
 
 // Stores entries in the front of a list: those before `i` are there.

@@ -63,8 +63,8 @@ fn place_all(
     rounds
 }
 
-// The transfers from some copies to others, with their number and that of their rounds.
-pub(crate) fn transfers_between(
+// The transfers from some copies to others, with their number and that of their rounds; with space to work in.
+fn transfers_with(
     old: &[u64],
     new: &[u64],
     entries: &mut [u64],
@@ -84,4 +84,17 @@ pub(crate) fn transfers_between(
         transfers: n as u32,
         rounds: rounds as u32,
     }
+}
+
+// The same with space of its own: no search has started, and no end is busy.
+pub(crate) fn transfers_between(old: &[u64], new: &[u64], entries: &mut [u64]) -> TransfersAnswer
+    requires { ⌜ Each CopyFits (map storedIn (now old)) × Ordered (map storedIn (now old)) × (length (now old) ≤ mostTransfers) ⌝ }
+    requires { ⌜ Each CopyFits (map storedIn (now new)) × Ordered (map storedIn (now new)) × (length (now new) ≤ length (now entries)) ⌝ }
+    requires { ⌜ length (now entries) ≡ mostTransfers ⌝ }
+    ensures { λ r. ⌜ Outcome (scheduleOf (map storedIn (now (old .entry))) (map storedIn (now (new .entry)))) (now (entries .exit)) (transferNumbers r) ⌝ }
+{
+    let mut starts = [256u16; 4096];
+    let mut busy = [0u8; 2304];
+    let mut full = [0u64; 9];
+    transfers_with(old, new, entries, &mut starts, &mut busy, &mut full)
 }

@@ -133,8 +133,8 @@ fn read_new(
     }
 }
 
-// Reads both texts: the old one's refusals, then the new one's, then 14 and 15.
-pub(crate) fn read_texts(
+// Reads both texts, with space for their racks: the old one's refusals, then the new one's, then 14 and 15.
+fn read_texts_with(
     old: &[u8],
     new: &[u8],
     oldrack: &mut [u64],
@@ -157,4 +157,19 @@ pub(crate) fn read_texts(
             newkeys,
         ),
     }
+}
+
+// The same with racks of its own.
+pub(crate) fn read_texts(
+    old: &[u8],
+    new: &[u8],
+    oldkeys: &mut [u64],
+    newkeys: &mut [u64],
+) -> TextRead
+    requires { ⌜ (length (now oldkeys) ≡ mostTransfers) × (length (now newkeys) ≡ mostTransfers) ⌝ }
+    ensures { λ r. ⌜ StoredTexts (textsVerdict (now (old .entry)) (now (new .entry))) (now (oldkeys .exit)) (now (newkeys .exit)) (textRead r) ⌝ }
+{
+    let mut oldrack = [0u64; 64];
+    let mut newrack = [0u64; 64];
+    read_texts_with(old, new, &mut oldrack, &mut newrack, oldkeys, newkeys)
 }

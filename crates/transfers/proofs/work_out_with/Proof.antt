@@ -14,19 +14,22 @@ use Rattle.transfers.proofs.TextsSteps.{BothAs, both-as, both-refused, 
 use Rattle.transfers.proofs.work_out_with.Statement.{statement}
 use Rattle.transfers.proofs.work_out_with.Tie as tie
 
+abbrev start-of : tie.After-read-texts → tie.Start
+start-of c = c .before .before .before .before .before .before .before .before
+
 -- The place before reading, and the plans that were read.
 module _ (c : tie.After-known-told2) where
   abbrev at-read : tie.After-read-texts
-  at-read = c .before .before .before .before .before .before .before .before .before .before .before
+  at-read = c .before .before .before .before .before .before .before
 
   abbrev start : tie.Start
-  start = at-read .before .before .before .before .before .before .before .before .before .before .before .before .before .before .before
+  start = start-of at-read
 
   abbrev oldkeys : List ℕ
-  oldkeys = at-read .read-texts .last .1 .1 .1 .1 .0
+  oldkeys = at-read .read-texts .last .1 .1 .0
 
   abbrev newkeys : List ℕ
-  newkeys = at-read .read-texts .last .1 .1 .1 .1 .1 .0
+  newkeys = at-read .read-texts .last .1 .1 .1 .0
 
   abbrev m : ℕ
   m = c .before .read2 .given .0 .0
@@ -53,7 +56,7 @@ slice-aggregate-transfers-between-2 c = sym (length-take-le _ _ (plans-read (c .
 
 transfers-between-requires : tie.Need-transfers-between-requires
 transfers-between-requires c κs =
-    let at-plan = c .before .before .before .before .before .before in
+    let at-plan = c .before .before .before in
     let a = start at-plan .args in
     let pre = start at-plan .pre in
     let r = plans-read at-plan in
@@ -63,32 +66,32 @@ transfers-between-requires c κs =
       (
         olds-fit (a .old .now) (a .new .now) (oldkeys at-plan) (newkeys at-plan) (m at-plan) (n at-plan) r,
         olds-ordered (a .old .now) (a .new .now) (oldkeys at-plan) (newkeys at-plan) (m at-plan) (n at-plan) r,
-        omega (arith, long, r .oldRoom, kept .1 .1 .1 .1 .0, pre .0 .1),
+        omega (arith, long, r .oldRoom, kept .1 .1 .0, pre .1),
       ),
       (
         (
           news-fit (a .old .now) (a .new .now) (oldkeys at-plan) (newkeys at-plan) (m at-plan) (n at-plan) r,
           news-ordered (a .old .now) (a .new .now) (oldkeys at-plan) (newkeys at-plan) (m at-plan) (n at-plan) r,
-          omega (arith, longer, r .newRoom, kept .1 .1 .1 .1 .1 .0, pre .1 .0 .1, pre .1 .1 .0),
+          omega (arith, longer, r .newRoom, kept .1 .1 .1 .0, pre .2, pre .0),
         ),
-        pre .1 .1,
+        pre .0,
       ),
     )
 
 returns : tie.Need-returns
 returns c =
-    let at-read = c .before .before .before .before .before .before .before .before .before .before .before in
-    let a = at-read .before .before .before .before .before .before .before .before .before .before .before .before .before .before .before .args in
+    let at-read = c .before .before .before .before .before .before .before in
+    let a = start-of at-read .args in
     let r = c .before .read .given .0 .0 in
-    both-refused (textsVerdict (a .old .now) (a .new .now)) (at-read .read-texts .last .1 .1 .1 .1 .0) (at-read .read-texts .last .1 .1 .1 .1 .1 .0) (a .entries .now)
+    both-refused (textsVerdict (a .old .now) (a .new .now)) (at-read .read-texts .last .1 .1 .0) (at-read .read-texts .last .1 .1 .1 .0) (a .entries .now)
     (numberOf r) (secondOf r)
-    (subst (StoredTexts (textsVerdict (a .old .now) (a .new .now)) (at-read .read-texts .last .1 .1 .1 .1 .0) (at-read .read-texts .last .1 .1 .1 .1 .1 .0))
+    (subst (StoredTexts (textsVerdict (a .old .now) (a .new .now)) (at-read .read-texts .last .1 .1 .0) (at-read .read-texts .last .1 .1 .1 .0))
     (ap textRead (c .before .read .given .1)) (at-read .read-texts .ensures))
 
 returns-2 : tie.Need-returns-2
 returns-2 c =
-    let at-made = c .before .before .before .before .before .before .before .before in
-    let at-plan = at-made .before .before .before .before .before .before .before in
+    let at-made = c .before .before in
+    let at-plan = at-made .before .before .before .before in
     let a = start at-plan .args in
     both-worked (textsVerdict (a .old .now) (a .new .now)) (oldkeys at-plan) (newkeys at-plan) (at-made .transfers-between .last .1 .1 .0) (m at-plan) (n at-plan)
     (transferNumbers (at-made .transfers-between .result)) (plans-read at-plan) (at-made .transfers-between .ensures)
@@ -107,14 +110,7 @@ work-out-with-spec =
     transfers-between-requires
     (λ c. search needs)
     (λ c. search needs)
-    (λ c. search needs)
-    (λ c. search needs)
     returns
-    (λ c. search needs)
-    (λ c. search needs)
-    (λ c. search needs)
-    (λ c. search needs)
-    (λ c. search needs)
     (λ c. search needs)
     (λ c. search needs)
     (λ c. search needs)

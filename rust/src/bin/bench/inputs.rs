@@ -140,7 +140,7 @@ pub struct TextPair {
 
 /// The largest racks whose transfers are found, every slot full and nothing in common on any disk.
 /// The loader takes part in all transfers or in none, and the texts name no left films or the most.
-pub fn text_pairs() -> [TextPair; 3] {
+pub fn text_pairs() -> [TextPair; 4] {
     let films = |first: u32| -> Vec<Vec<u32>> {
         let of_disk = |disk: u32| (0..MOST_SLOTS).map(move |slot| first + MOST_SLOTS * disk + slot);
         let disks = 0..MOST_TRANSFER_DISKS as u32;
@@ -149,6 +149,12 @@ pub fn text_pairs() -> [TextPair; 3] {
     let (old, others) = (films(10_000), films(20_000));
     let mut moved = old.clone();
     moved.rotate_right(1);
+    let mut spread = vec![Vec::new(); old.len()];
+    for (disk, films) in old.iter().enumerate() {
+        for (slot, &film) in films.iter().rev().enumerate() {
+            spread[(disk + 1 + slot % 7) % 8].push(film);
+        }
+    }
     let pair = |name, new: &[Vec<u32>], left, rounds| TextPair {
         name,
         old: full_text(&old, left),
@@ -159,6 +165,7 @@ pub fn text_pairs() -> [TextPair; 3] {
         pair("every film from the loader", &others, 0, 256),
         pair("every film moves to the next disk", &moved, 0, 64),
         pair("the same, and 1,024 left films", &moved, MOST_RECORDS, 64),
+        pair("every film moves, from each disk to all others", &spread, 0, 65),
     ]
 }
 

@@ -1,141 +1,36 @@
--- `transfers::transfers_between` meets its contract: what the old copies lack is placed, and the largest round is the number of rounds.
+-- `transfers::transfers_between` meets its contract: its own space is as long as the steps ask, and no end is busy at first.
 use borrow.Author.Needs.{needs}
-use mathlib.Core.Path.{_≡_, sym, ap, ap₂, subst, _∙_}
-use mathlib.Core.List.{List, [], _∷_, map}
-use Prim.Native.Nat.{ℕ, _≤_}
+use mathlib.Core.Path.{refl}
+use mathlib.Core.List.{[]}
+use Prim.Native.Nat.{ℕ, _+_, _*_}
 use native.Mathlib.Omega.{arith}
-use lib.ListN.{length, take, drop, length-map, length-append}
-use lib.Seq.{length-take-le, take-at}
-use Rattle.placement.specs.WellFormed.{Each}
-use Rattle.transfer_schedule.specs.Stored.{StoredCopy}
-use Rattle.transfer_schedule.specs.Schedule.{Transfer, placeAll, roundsOf}
-use Rattle.transfer_schedule.specs.Schedule.{schedule as scheduleOf}
-use Rattle.transfer_schedule.specs.Fits.{CopyFits, TransferFits}
-use Rattle.transfer_schedule.specs.Transfers.{transferEntry, sums}
-use Rattle.transfer_schedule.proofs.Lacking.{lacking-each}
-use Rattle.transfer_schedule.proofs.Placing.{place-length}
-use Rattle.transfer_schedule.proofs.Scheduled.{schedule-fits}
-use Rattle.transfers.specs.Keys.{storedIn, storedAt}
+use lib.ListN.{replicate, length-replicate, getD-replicate}
+use Rattle.transfer_schedule.specs.Counts.{ends}
+use Rattle.transfers.specs.Keys.{rowLength, busyPlaces, BusyTable, FullTable, startPlaces}
 use Rattle.transfers.proofs.schedule.transfers_between.Statement.{statement}
 use Rattle.transfers.proofs.schedule.transfers_between.Tie as tie
 
--- No round is above 256.
-rounds-most : (ts : List Transfer) → Each TransferFits ts → roundsOf ts ≤ 256
-rounds-most [] fit = omega arith
-rounds-most (t ∷ ts) fit = omega (arith, fit .0 .round, rounds-most ts (fit .1))
+-- Without transfers no end is busy.
+free-table : BusyTable (replicate busyPlaces 0) []
+free-table = record {
+  wide = length-replicate {A = ℕ} busyPlaces 0;
+  rows = λ end r few within. getD-replicate {A = ℕ} busyPlaces (end * rowLength + r) 0 0 (omega (arith, few, within));
+}
 
-put-lacking-requires : tie.Need-put-lacking-requires
-put-lacking-requires c κs =
-    let pre = c .before .before .before .before .before .before .before .before .before .before .before .pre in
-    (pre .0 .1, pre .1 .0 .1, pre .1 .0 .2)
+-- And none is known to be.
+no-rounds : FullTable (replicate busyPlaces 0) (replicate ends 0) 0
+no-rounds = record {
+  wide = refl;
+  few = λ end few. omega (arith, getD-replicate {A = ℕ} ends end 0 0 few);
+  ones = λ end few r less. absurd (omega (arith, less, getD-replicate {A = ℕ} ends end 0 0 few));
+}
 
--- The keys of the copies that the old ones lack stand in front.
-module _ (c : tie.After-put-lacking) where
-  abbrev start : tie.Start
-  start = c .before .before .before .before .before .before .before .before .before .before .before .before
-
-  abbrev old : List StoredCopy
-  old = map storedIn (start .args .old .now)
-
-  abbrev new : List StoredCopy
-  new = map storedIn (start .args .new .now)
-
-  abbrev n : ℕ
-  n = c .put-lacking .result
-
-  abbrev keys : List ℕ
-  keys = c .put-lacking .last .1 .1 .0
-
-  room : n ≤ length keys
-  room = omega (arith, c .put-lacking .ensures .1, c .put-lacking .kept .1 .1 .0, start .pre .1 .0 .2)
-
-  front-long : length (take n keys) ≡ n
-  front-long = length-take-le n keys room
-
-  few : n ≤ 256
-  few = omega (arith, c .put-lacking .ensures .1, start .pre .1 .0 .2, start .pre .1 .1 .0)
-
-  fits : Each TransferFits (scheduleOf old new)
-  fits =
-      schedule-fits old new (start .pre .0 .0) (start .pre .1 .0 .0)
-      (omega (arith, length-map (start .args .new .now) storedIn, start .pre .1 .0 .2, start .pre .1 .1 .0))
-
-  -- Their transfers are the schedule, one for each.
-  placed-is : placeAll old [] (storedAt n keys) ≡ scheduleOf old new
-  placed-is = ap (placeAll old []) (c .put-lacking .ensures .0)
-
-  number : length (scheduleOf old new) ≡ n
-  number =
-      ap length (sym placed-is)
-      ∙ (omega (arith, place-length old [] (storedAt n keys), length-map (take n keys) storedIn, front-long))
-
-slice-relend-prefix-place-all : tie.Need-slice-relend-prefix-place-all
-slice-relend-prefix-place-all c = room (c .before .before .before)
-
-slice-aggregate-place-all : tie.Need-slice-aggregate-place-all
-slice-aggregate-place-all c = sym (front-long (c .before .before .before .before))
-
-place-all-requires : tie.Need-place-all-requires
-place-all-requires c κs =
-    let at-lacking = c .before .before .before .before .before .before in
-    let at-noted = at-lacking .before .before .before .before in
-    let pre = start at-lacking .pre in (
-      (
-        pre .0 .0,
-        subst (Each CopyFits) (sym (at-lacking .put-lacking .ensures .0)) (lacking-each (old at-lacking) CopyFits (new at-lacking) (pre .1 .0 .0)),
-        omega (arith, front-long at-lacking, few at-lacking),
-      ),
-      (at-noted .note-starts .ensures, pre .1 .1 .2, pre .1 .1 .3),
-    )
-
-abbrev lacking-of : tie.After-place-all → tie.After-put-lacking
-lacking-of c = c .before .before .before .before .before .before .before
-
--- The largest round is that of the schedule.
-rounds-are : (c : tie.After-place-all) → c .place-all .result ≡ roundsOf (scheduleOf (old (lacking-of c)) (new (lacking-of c)))
-rounds-are c = c .place-all .ensures .1 ∙ ap roundsOf (placed-is (lacking-of c))
-
-cast-t22 : tie.Need-cast-t22
-cast-t22 c = omega (arith, few (lacking-of (c .before .before .before .before .before .before)))
-
-cast-t23 : tie.Need-cast-t23
-cast-t23 c =
-    let at-placed = c .before .before .before .before .before .before in
-    omega (
-      arith,
-      rounds-are at-placed,
-      rounds-most (scheduleOf (old (lacking-of at-placed)) (new (lacking-of at-placed))) (fits (lacking-of at-placed)),
-    )
-
-returns : tie.Need-returns
-returns c =
-    let at-placed = c .before .before .before .before .before .before in
-    let at-lacking = lacking-of at-placed in
-    let ts = scheduleOf (old at-lacking) (new at-lacking) in
-    let entries = at-placed .place-all .last .1 .1 .0 in
-    let rest = drop (n at-lacking) (keys at-lacking) in
-    let made : entries ≡ map transferEntry ts = at-placed .place-all .ensures .0 ∙ ap (map transferEntry) (placed-is at-lacking) in
-    let long : length entries ≡ length ts = ap length made ∙ length-map ts transferEntry in
-    record {
-      told = ap₂ (λ (k r : ℕ). record { refusal = 0; second = 0; values = sums k r }) (sym (number at-lacking)) (rounds-are at-placed);
-      front = take-at entries rest (length ts) long ∙ made;
-      fit = fits at-lacking;
-      room = omega (arith, long, length-append entries rest);
-    }
+transfers-with-requires : tie.Need-transfers-with-requires
+transfers-with-requires c κs =
+    let pre = c .before .before .before .before .before .before .before .pre in
+    (pre .0, (pre .1 .0, (pre .1 .1, length-replicate {A = ℕ} startPlaces 256, free-table, no-rounds)))
 
 pub transfers-between-spec : {M : Type 1} → statement M
 transfers-between-spec =
     tie.close
-    (tie.spec
-    (λ c κs. search needs)
-    put-lacking-requires
-    slice-relend-prefix-place-all
-    slice-aggregate-place-all
-    place-all-requires
-    cast-t22
-    cast-t23
-    (λ c. search needs)
-    (λ c. search needs)
-    (λ c. search needs)
-    (λ c. search needs)
-    returns)
+    (tie.spec (λ c. search needs) (λ c. search needs) (λ c. search needs) transfers-with-requires (λ c. search needs) (λ c. search needs))

@@ -1,4 +1,4 @@
--- `transfers::read_texts` meets its contract: the old text is refused, or the new one is read behind it.
+-- `transfers::read_texts_with` meets its contract: the old text is refused, or the new one is read behind it.
 use borrow.Author.Needs.{needs}
 use mathlib.Core.Path.{_≡_, sym, ap, subst}
 use mathlib.Core.List.{List}
@@ -11,8 +11,8 @@ use Rattle.plan_text.specs.ReadCall.{textVerdict}
 use Rattle.transfers.specs.Keys.{StoredText}
 use Rattle.transfers.specs.Answers.{textRead}
 use Rattle.transfers.proofs.ReadSteps.{ReadAs, read-as, rack-most, read-refusal, read-accepted, old-refused, both-stored}
-use Rattle.transfers.proofs.texts.read_texts.Statement.{statement}
-use Rattle.transfers.proofs.texts.read_texts.Tie as tie
+use Rattle.transfers.proofs.texts.read_texts_with.Statement.{statement}
+use Rattle.transfers.proofs.texts.read_texts_with.Tie as tie
 
 -- The place before reading, and the plan of the old text.
 module _ (c : tie.After-known-told2) where
@@ -77,8 +77,8 @@ returns-2 c =
     both-stored (textVerdict (start at-plan .args .old .now)) (textVerdict (start at-plan .args .new .now)) (rack at-plan) (keys at-plan)
     (at-new .read-new .last .1 .1 .1 .1 .0) (disks at-plan) (copies at-plan) (plan-read at-plan) (textRead (at-new .read-new .result)) (at-new .read-new .ensures)
 
-pub read-texts-spec : {M : Type 1} → statement M
-read-texts-spec =
+pub read-texts-with-spec : {M : Type 1} → statement M
+read-texts-with-spec =
     tie.close
     (tie.spec
     (λ c κs. search needs)
