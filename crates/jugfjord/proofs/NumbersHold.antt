@@ -3,7 +3,7 @@ use mathlib.Core.Path.{_≡_, refl}
 use Rattle.refusal.specs.Verdict.{Numbers}
 use Rattle.placement.specs.Planning.{PlanSums, sums}
 use Rattle.plan_text.specs.ReadCall.{Told, told}
-use Rattle.transfer_schedule.specs.Transfers.{Sums, sums as transferSums}
+use Rattle.transfer_schedule.specs.Transfers.{ScheduleSize, scheduleSize}
 use Rattle.jugfjord.specs.Numbers.{plannedFields, writtenFields, readFields, transferredFields}
 
 pub planned-holds :
@@ -19,5 +19,5 @@ pub read-holds :
 read-holds = refl
 
 pub transferred-holds :
-    transferredFields (record { number = 1; second = 2; transfers = 3; rounds = 4 }) ≡ record { refusal = 1; second = 2; values = transferSums 3 4 }
+    transferredFields (record { number = 1; second = 2; transfers = 3; rounds = 4 }) ≡ record { refusal = 1; second = 2; values = scheduleSize 3 4 }
 transferred-holds = refl

@@ -5,7 +5,7 @@ use Rattle.placement.specs.Planning.{PlanSums, sums}
 use Rattle.plan_text.specs.ReadCall.{Told, told}
 use Rattle.jugfjord.specs.declared.planning.Planned.{Planned}
 use Rattle.jugfjord.specs.declared.reading.ReadPlan.{ReadPlan}
-use Rattle.transfer_schedule.specs.Transfers.{Sums, sums as transferSums}
+use Rattle.transfer_schedule.specs.Transfers.{ScheduleSize, scheduleSize}
 use Rattle.jugfjord.specs.declared.writing.WrittenNumbers.{WrittenNumbers}
 use Rattle.jugfjord.specs.declared.transferring.Transferred.{Transferred}
 
@@ -27,5 +27,5 @@ readFields r = record {
 }
 
 -- Of `struct jugfjord_transferred`.
-abbrev pub transferredFields : Transferred → Numbers Sums
-transferredFields r = record { refusal = r .number; second = r .second; values = transferSums (r .transfers) (r .rounds) }
+abbrev pub transferredFields : Transferred → Numbers ScheduleSize
+transferredFields r = record { refusal = r .number; second = r .second; values = scheduleSize (r .transfers) (r .rounds) }

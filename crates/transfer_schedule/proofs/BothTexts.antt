@@ -15,7 +15,7 @@ use Rattle.plan_text.specs.Text.{firstLine}
 use Rattle.plan_text.specs.ReadCall.{textVerdict}
 use Rattle.plan_text.proofs.Verdicts.{verdict-eight}
 use Rattle.transfer_schedule.specs.Fits.{mostTransferDisks}
-use Rattle.transfer_schedule.specs.Transfers.{followedWith, fewDisks, sameLine, racksJudged, Plans, plans, textsVerdict}
+use Rattle.transfer_schedule.specs.Transfers.{followedWith, fewDisks, sameNumbers, racksJudged, Plans, plans, textsVerdict}
 use Rattle.transfer_schedule.proofs.Lines.{same-refl, same-equal}
 
 -- A refusal has a number of at least 8.
@@ -58,7 +58,7 @@ module _ (old new : List ℕ) where
       go : (v w : Verdict Plan) → textVerdict old ≡ v → textVerdict new ≡ w → Late (following v w)
       go (refused n s) w e f = text-late old n s e
       go (given p) (refused n s) e f = text-late new n s f
-      go (given p) (given q) e f = racks p q (fewDisks (p .rack) && fewDisks (q .rack)) (sameLine (firstLine (p .rack)) (firstLine (q .rack)))
+      go (given p) (given q) e f = racks p q (fewDisks (p .rack) && fewDisks (q .rack)) (sameNumbers (firstLine (p .rack)) (firstLine (q .rack)))
 
   -- So their refusal is at least 8.
   pub texts-late : (n s : ℕ) → textsVerdict old new ≡ refused n s → 8 ≤ n
@@ -80,7 +80,7 @@ module _ (old new : List ℕ) where
       go (given p) (refused n s) e f h = false-true (unless-given false n s (given both) both h .0)
       go (given p) (given q) e f h =
           let few = unless-given (fewDisks (p .rack) && fewDisks (q .rack)) 14 0 _ both h in
-          let same = unless-given (sameLine (firstLine (p .rack)) (firstLine (q .rack))) 15 0 _ both (few .1) in
+          let same = unless-given (sameNumbers (firstLine (p .rack)) (firstLine (q .rack))) 15 0 _ both (few .1) in
           let each = both-true (fewDisks (p .rack)) (fewDisks (q .rack)) (few .0) in
           subst (BothRead old new) (ap (plansOr (plans p q)) (same .1)) (record {
             first = e;
@@ -97,5 +97,5 @@ module _ (old new : List ℕ) where
       ∙ unless-passes (fewDisks (both .old .rack) && fewDisks (both .new .rack)) 14 0 _
       (and-holds (fewDisks (both .old .rack)) (fewDisks (both .new .rack)) (le-leb _ mostTransferDisks (r .firstFew))
       (le-leb _ mostTransferDisks (r .secondFew)))
-      ∙ unless-passes (sameLine (firstLine (both .old .rack)) (firstLine (both .new .rack))) 15 0 (given both)
-      (ap (sameLine (firstLine (both .old .rack))) (sym (r .line)) ∙ same-refl (firstLine (both .old .rack)))
+      ∙ unless-passes (sameNumbers (firstLine (both .old .rack)) (firstLine (both .new .rack))) 15 0 (given both)
+      (ap (sameNumbers (firstLine (both .old .rack))) (sym (r .line)) ∙ same-refl (firstLine (both .old .rack)))

@@ -9,7 +9,7 @@ use Rattle.refusal.specs.Verdict.{given, refused, Numbers}
 use Rattle.plan_text.specs.ReadCall.{textVerdict}
 use Rattle.plan_text.proofs.Verdicts.{verdict-text}
 use Rattle.transfer_schedule.specs.Counts.{ends, countTable, countAt, tableSum}
-use Rattle.transfer_schedule.specs.Transfers.{Plans, textsVerdict, transfersOf, transfersVerdict, Sums, transferring, entriesAfter, tableAfter, countsOf}
+use Rattle.transfer_schedule.specs.Transfers.{Plans, textsVerdict, transfersOf, transfersVerdict, ScheduleSize, transferring, entriesAfter, tableAfter, countsOf}
 use Rattle.transfer_schedule.specs.TransfersPromise.{Listed, CountsPromise, CountedPromise}
 use Rattle.transfer_schedule.proofs.TableSum.{count-at}
 use Rattle.transfer_schedule.proofs.BothTexts.{BothRead, texts-late, texts-read}
@@ -18,19 +18,19 @@ use Rattle.transfer_schedule.proofs.TransfersPromise.{refusal-by, trans
 
 module _ (old new : List ℕ) where
   -- The plans of a list of transfers are those that the two texts are read as,
-  read-listed : (entry exit : List ℕ) (values : Sums) (l : Listed old new entry exit values) → BothRead old new (l .both)
+  read-listed : (entry exit : List ℕ) (values : ScheduleSize) (l : Listed old new entry exit values) → BothRead old new (l .both)
   read-listed entry exit values l =
       record {
         first = ap textVerdict (sym (l .oldText)) ∙ verdict-text (l .both .old) (l .oldFormed);
         second = ap textVerdict (sym (l .newText)) ∙ verdict-text (l .both .new) (l .newFormed);
-        firstFew = l .fewDisks .0;
-        secondFew = l .fewDisks .1;
-        line = l .sameLine;
+        firstFew = l .disks .0;
+        secondFew = l .disks .1;
+        line = l .lines;
       }
 
   -- so that the counts are of these transfers.
   listed-counts :
-      (entry exit : List ℕ) (values : Sums) (l : Listed old new entry exit values) → countsOf old new ≡ countTable (transfersOf (l .both))
+      (entry exit : List ℕ) (values : ScheduleSize) (l : Listed old new entry exit values) → countsOf old new ≡ countTable (transfersOf (l .both))
   listed-counts entry exit values l =
       sym (counts-by old new (given (l .both)) (texts-read old new (l .both) (read-listed entry exit values l)))
 
@@ -41,12 +41,12 @@ module _ (old new : List ℕ) where
         counts = same;
         counted = λ entry exit values l.
             let is = same ∙ listed-counts entry exit values l in
-            (is, ap tableSum is ∙ l .scheduled .summed ∙ sym (ap (λ (s : Sums). s .transfers) (l .told)));
+            (is, ap tableSum is ∙ l .scheduled .summed ∙ sym (ap (λ (s : ScheduleSize). s .transfers) (l .told)));
         counting = λ entry exit values l source destination s d.
             ap (λ (t : List (List ℕ)). countAt t source destination) (same ∙ listed-counts entry exit values l)
             ∙ count-at (transfersOf (l .both)) source destination s d;
         refused = λ entry exit answer promise some other.
-            let number = ap (λ (a : Numbers Sums). a .refusal) (promise .numbers) in
+            let number = ap (λ (a : Numbers ScheduleSize). a .refusal) (promise .numbers) in
             by-call old new (length entry) ends {P = table ≡ countTable []} (λ n s e f. same ∙ sym (counts-by old new (refused n s) e))
             (λ both e f. absurd (other (number ∙ refusal-by old new (length entry) ends (refused 7 0) f)))
             (λ both e f. absurd (omega (arith, some, number, refusal-by old new (length entry) ends (given (transfersOf both)) f)));
@@ -64,11 +64,11 @@ module _ (old new : List ℕ) where
 
     -- An answer, a list and a table that are the definition's keep the promise of both.
     pub counted-promise :
-        {exit : List ℕ} {tableExit : List (List ℕ)} {answer : Numbers Sums} → answer ≡ transferring old new (length entry) (length table)
+        {exit : List ℕ} {tableExit : List (List ℕ)} {answer : Numbers ScheduleSize} → answer ≡ transferring old new (length entry) (length table)
         → exit ≡ entriesAfter old new entry (length table) → tableExit ≡ tableAfter old new (length entry) table
         → CountedPromise old new entry exit table tableExit answer
     counted-promise {exit} {tableExit} {answer} numbers list same =
-        let number = ap (λ (a : Numbers Sums). a .refusal) numbers in
+        let number = ap (λ (a : Numbers ScheduleSize). a .refusal) numbers in
         record {
           listed = transfers-promise old new entry (length table) numbers list;
           counts = same;

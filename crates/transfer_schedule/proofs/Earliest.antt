@@ -11,7 +11,7 @@ use Rattle.transfer_schedule.specs.Words.{partsOf}
 use Rattle.transfer_schedule.proofs.BusyRounds.{busy-most, busy-few}
 
 module _ (ts : List Transfer) (s d : ℕ) where
-  -- The earliest of n rounds from one on, or the one behind them.
+  -- The earliest of n rounds from one on is not before that one.
   from-first : (n round : ℕ) → round ≤ earliestFrom n ts s d round
   from-first zero round = omega arith
   from-first (suc n) round = go (bothFree ts s d round) (from-first n (suc round))

@@ -13,7 +13,7 @@ use Rattle.placement.proofs.Conjunctions.{and-holds, first-fails, second-decide
 use Rattle.placement.proofs.Tests.{by-order}
 use Rattle.transfer_schedule.specs.Schedule.{Transfer}
 use Rattle.transfer_schedule.specs.Counts.{ends}
-use Rattle.transfer_schedule.specs.Transfers.{followedWith, Plans, textsVerdict, transfersOf, spaceJudged, transfersVerdict, answerTo, listGiven, tableGiven, countsGiven, transferring, entriesAfter, tableAfter, countsOf}
+use Rattle.transfer_schedule.specs.Transfers.{followedWith, Plans, textsVerdict, transfersOf, spaceJudged, transfersVerdict, transfersAnswer, listGiven, tableGiven, countsGiven, transferring, entriesAfter, tableAfter, countsOf}
 
 -- Places or rows that are too few fail the test of space.
 too-few : (places rows n : ℕ) → (places < n) ⊎ (rows < ends) → (leb n places && leb ends rows) ≡ false
@@ -67,9 +67,9 @@ module _ (old new : List ℕ) where
             (λ all. enough both e (judged-given both e few all)))
 
     -- The answer by the verdict.
-    pub answer-by : (v : Verdict (List Transfer)) → transfersVerdict old new places rows ≡ v → answerTo v ≡ transferring old new places rows
+    pub answer-by : (v : Verdict (List Transfer)) → transfersVerdict old new places rows ≡ v → transfersAnswer v ≡ transferring old new places rows
     unfolding transferring
-    answer-by v e = ap answerTo (sym e)
+    answer-by v e = ap transfersAnswer (sym e)
 
   -- The list and the table by it,
   pub list-by :

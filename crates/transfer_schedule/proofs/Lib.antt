@@ -15,6 +15,7 @@ pub mod Ordered
 pub mod Alone
 pub mod FewRounds
 pub mod Scheduled
+pub mod OnlySchedule
 pub mod Lines
 pub mod Entries
 pub mod BothTexts
@@ -24,3 +25,4 @@ pub mod TransfersPromise
 pub mod CountsPromise
 pub mod Own
 pub mod TransferExamplesHold
+pub mod ScheduledWords

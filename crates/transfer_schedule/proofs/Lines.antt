@@ -4,7 +4,6 @@ use mathlib.Core.Bool.{Bool, true, false, _&&_}
 use mathlib.Core.List.{List, [], _∷_, _++_, map}
 use Prim.Native.Nat.{ℕ, suc, _+_, _<_}
 use native.Mathlib.Numerals.{add-one}
-use native.Mathlib.Omega.{arith}
 use borrow.Author.Tests.{eqb-true, eq-eqb, ne-eqb}
 use lib.Dec.{eqb}
 use lib.ListN.{length, getD, drop}
@@ -19,42 +18,42 @@ use Rattle.plan_text.specs.Reading.{rackRead}
 use Rattle.plan_text.proofs.Numbers.{none-faithful}
 use Rattle.plan_text.proofs.Pieces.{parsed-value}
 use Rattle.plan_text.proofs.FirstLine.{first-line}
-use Rattle.transfer_schedule.specs.Transfers.{sameLine}
+use Rattle.transfer_schedule.specs.Transfers.{sameNumbers}
 
 -- Lists of different lengths are not the same.
-pub same-lengths : (xs ys : List ℕ) → (length xs ≡ length ys → ⊥) → false ≡ sameLine xs ys
+pub same-lengths : (xs ys : List ℕ) → (length xs ≡ length ys → ⊥) → false ≡ sameNumbers xs ys
 same-lengths [] [] other = absurd (other refl)
 same-lengths [] (y ∷ ys) other = refl
 same-lengths (x ∷ xs) [] other = refl
 same-lengths (x ∷ xs) (y ∷ ys) other = go (eqb x y) (same-lengths xs ys (λ e. other (ap suc e)))
   where
-    go : (b : Bool) → false ≡ sameLine xs ys → false ≡ (b && sameLine xs ys)
+    go : (b : Bool) → false ≡ sameNumbers xs ys → false ≡ (b && sameNumbers xs ys)
     go true later = later
     go false later = refl
 
 module _ (xs ys : List ℕ) (i : ℕ) (h : i < length xs) (k : i < length ys) where
-  here : sameLine (drop i xs) (drop i ys) ≡ (eqb (getD xs i 0) (getD ys i 0) && sameLine (drop (i + 1) xs) (drop (i + 1) ys))
-  here = rw add-one (ap₂ sameLine (drop-cons xs i 0 h) (drop-cons ys i 0 k))
+  here : sameNumbers (drop i xs) (drop i ys) ≡ (eqb (getD xs i 0) (getD ys i 0) && sameNumbers (drop (i + 1) xs) (drop (i + 1) ys))
+  here = rw add-one (ap₂ sameNumbers (drop-cons xs i 0 h) (drop-cons ys i 0 k))
 
   -- Different numbers at a place settle it,
-  pub same-fails : (getD xs i 0 ≡ getD ys i 0 → ⊥) → false ≡ sameLine (drop i xs) (drop i ys)
-  same-fails other = sym (here ∙ ap (λ (b : Bool). b && sameLine (drop (i + 1) xs) (drop (i + 1) ys)) (ne-eqb _ _ other))
+  pub same-fails : (getD xs i 0 ≡ getD ys i 0 → ⊥) → false ≡ sameNumbers (drop i xs) (drop i ys)
+  same-fails other = sym (here ∙ ap (λ (b : Bool). b && sameNumbers (drop (i + 1) xs) (drop (i + 1) ys)) (ne-eqb _ _ other))
 
   -- and behind equal ones the rest does.
-  pub same-later : getD xs i 0 ≡ getD ys i 0 → sameLine (drop i xs) (drop i ys) ≡ sameLine (drop (i + 1) xs) (drop (i + 1) ys)
-  same-later e = here ∙ ap (λ (b : Bool). b && sameLine (drop (i + 1) xs) (drop (i + 1) ys)) (eq-eqb _ _ e)
+  pub same-later : getD xs i 0 ≡ getD ys i 0 → sameNumbers (drop i xs) (drop i ys) ≡ sameNumbers (drop (i + 1) xs) (drop (i + 1) ys)
+  same-later e = here ∙ ap (λ (b : Bool). b && sameNumbers (drop (i + 1) xs) (drop (i + 1) ys)) (eq-eqb _ _ e)
 
 -- A list is the same as itself, and the same lists are equal.
-pub same-refl : (xs : List ℕ) → sameLine xs xs ≡ true
+pub same-refl : (xs : List ℕ) → sameNumbers xs xs ≡ true
 same-refl [] = refl
-same-refl (x ∷ xs) = and-holds (eqb x x) (sameLine xs xs) (eq-eqb x x refl) (same-refl xs)
+same-refl (x ∷ xs) = and-holds (eqb x x) (sameNumbers xs xs) (eq-eqb x x refl) (same-refl xs)
 
-pub same-equal : (xs ys : List ℕ) → sameLine xs ys ≡ true → xs ≡ ys
+pub same-equal : (xs ys : List ℕ) → sameNumbers xs ys ≡ true → xs ≡ ys
 same-equal [] [] e = refl
 same-equal [] (y ∷ ys) e = false-true e
 same-equal (x ∷ xs) [] e = false-true e
 same-equal (x ∷ xs) (y ∷ ys) e =
-    let both = both-true (eqb x y) (sameLine xs ys) e in
+    let both = both-true (eqb x y) (sameNumbers xs ys) e in
     ap₂ (λ (z : ℕ) (zs : List ℕ). z ∷ zs) (eqb-true x y (both .0)) (same-equal xs ys (both .1))
 
 -- Racks with the same first line are the same, since the line reads as both.
@@ -72,16 +71,16 @@ packed-disks (n ∷ ns) = ap₂ (λ (m : ℕ) (ms : List ℕ). m ∷ ms) (entry-
 -- So the first lines of racks are compared by their numbers.
 pub line-numbers :
     (old new : List ℕ) → rackAccepted (disksIn old) ≡ true → rackAccepted (disksIn new) ≡ true
-    → sameLine (firstLine (disksIn old)) (firstLine (disksIn new)) ≡ sameLine old new
+    → sameNumbers (firstLine (disksIn old)) (firstLine (disksIn new)) ≡ sameNumbers old new
 line-numbers old new okOld okNew =
-    by-test (sameLine old new) (λ e. held e ∙ sym e) (λ e. by-test (sameLine (firstLine (disksIn old)) (firstLine (disksIn new))) (λ f. absurd (differs e f)) (λ f. f ∙ sym e))
+    by-test (sameNumbers old new) (λ e. held e ∙ sym e) (λ e. by-test (sameNumbers (firstLine (disksIn old)) (firstLine (disksIn new))) (λ f. absurd (differs e f)) (λ f. f ∙ sym e))
   where
-    held : sameLine old new ≡ true → sameLine (firstLine (disksIn old)) (firstLine (disksIn new)) ≡ true
+    held : sameNumbers old new ≡ true → sameNumbers (firstLine (disksIn old)) (firstLine (disksIn new)) ≡ true
     held e =
-        ap (λ (rack : List ℕ). sameLine (firstLine (disksIn old)) (firstLine (disksIn rack))) (sym (same-equal old new e)) ∙ same-refl (firstLine (disksIn old))
+        ap (λ (rack : List ℕ). sameNumbers (firstLine (disksIn old)) (firstLine (disksIn rack))) (sym (same-equal old new e)) ∙ same-refl (firstLine (disksIn old))
 
-    differs : sameLine old new ≡ false → sameLine (firstLine (disksIn old)) (firstLine (disksIn new)) ≡ true → ⊥
+    differs : sameNumbers old new ≡ false → sameNumbers (firstLine (disksIn old)) (firstLine (disksIn new)) ≡ true → ⊥
     differs e f =
         let racks = line-rack (disksIn old) (disksIn new) okOld okNew (same-equal (firstLine (disksIn old)) (firstLine (disksIn new)) f) in
         let numbers : old ≡ new = sym (packed-disks old) ∙ ap (map packedDisk) racks ∙ packed-disks new in
-        false-true (sym e ∙ ap (sameLine old) (sym numbers) ∙ same-refl old)
+        false-true (sym e ∙ ap (sameNumbers old) (sym numbers) ∙ same-refl old)

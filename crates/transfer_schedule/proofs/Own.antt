@@ -1,4 +1,4 @@
--- Entries that bring their own list and table: 256 places and nine rows are always enough.
+-- Functions that bring their own list and table: 256 places and nine rows are always enough.
 use mathlib.Core.Path.{_≡_, refl, sym, ap, _∙_}
 use mathlib.Core.List.{List, [], _++_, append-nil}
 use Prim.Native.Nat.{ℕ, _≤_}

@@ -10,7 +10,7 @@ use lib.Dec.{eqb}
 use Rattle.placement.specs.WellFormed.{Each}
 use Rattle.placement.proofs.Conjunctions.{both-true, and-holds, false-true}
 use Rattle.placement.proofs.Tests.{by-test}
-use Rattle.transfer_schedule.specs.Stored.{StoredCopy, stored, sameCopy, isStored, sourceOf}
+use Rattle.transfer_schedule.specs.Stored.{StoredCopy, storedCopy, sameCopy, isStored, sourceOf}
 use Rattle.transfer_schedule.specs.Schedule.{Transfer}
 use Rattle.transfer_schedule.specs.Words.{Holds, FromLoader, FromLowest}
 use Rattle.transfer_schedule.specs.Fits.{CopyFits}
@@ -34,7 +34,7 @@ source-fits (c ∷ cs) film fit = go (eqb film (c .film)) (source-fits cs film (
 pub holds-from : (low : ℕ) (old : List StoredCopy) (disk film : ℕ) → DisksAscend low old → Holds old disk film → low ≤ disk
 holds-from low [] disk film above held = false-true held
 holds-from low (c ∷ cs) disk film above held =
-    by-either (sameCopy (stored disk film) c) (isStored (stored disk film) cs) held
+    by-either (sameCopy (storedCopy disk film) c) (isStored (storedCopy disk film) cs) held
     (λ same. omega (arith, eqb-true disk (c .disk) (both-true (eqb disk (c .disk)) (eqb film (c .film)) same .0), above .0))
     (λ later. omega (arith, holds-from (c .disk) cs disk film (above .1) later, above .0))
 
@@ -64,7 +64,7 @@ module _ (low film : ℕ) (c : StoredCopy) (cs : List StoredCopy) (above : Disks
 
     holds-later : (disk : ℕ) → Holds (c ∷ cs) disk film → Holds cs disk film
     holds-later disk held =
-        by-either (sameCopy (stored disk film) c) (isStored (stored disk film) cs) held
+        by-either (sameCopy (storedCopy disk film) c) (isStored (storedCopy disk film) cs) held
         (λ same. false-true (sym e ∙ both-true (eqb disk (c .disk)) (eqb film (c .film)) same .1))
         (λ later. later)
 
@@ -73,7 +73,7 @@ module _ (low film : ℕ) (c : StoredCopy) (cs : List StoredCopy) (above : Disks
     there (inr some) =
         inr (
           omega (arith, source-later, some .0, above .0),
-          subst (λ (s : ℕ). Holds (c ∷ cs) s film) (sym source-later) (second-holds (sameCopy (stored (sourceOf cs film) film) c) _ (some .1)),
+          subst (λ (s : ℕ). Holds (c ∷ cs) s film) (sym source-later) (second-holds (sameCopy (storedCopy (sourceOf cs film) film) c) _ (some .1)),
           λ disk held. omega (arith, source-later, some .2 disk (holds-later disk held)),
         )
 
@@ -98,3 +98,14 @@ source-words old above t e = go (source-found 1 old (t .film) above)
           holds = subst (λ (s : ℕ). Holds old s (t .film)) (sym e) (some .1);
           lowest = λ disk held. omega (arith, e, some .2 disk held);
         })
+
+-- No other source is such a one.
+pub source-only :
+    (old : List StoredCopy) → DisksAscend 1 old → (t : Transfer) → FromLoader old t ⊎ FromLowest old t → t .source ≡ sourceOf old (t .film)
+source-only old above t words = go words (source-found 1 old (t .film) above)
+  where
+    go : FromLoader old t ⊎ FromLowest old t → Nowhere old (t .film) ⊎ Lowest 1 old (t .film) → t .source ≡ sourceOf old (t .film)
+    go (inl loader) (inl none) = loader .loader ∙ sym (none .0)
+    go (inl loader) (inr some) = absurd (loader .nowhere (sourceOf old (t .film)) (some .1))
+    go (inr lowest) (inl none) = absurd (none .1 (t .source) (lowest .holds))
+    go (inr lowest) (inr some) = omega (arith, lowest .lowest (sourceOf old (t .film)) (some .1), some .2 (t .source) (lowest .holds))

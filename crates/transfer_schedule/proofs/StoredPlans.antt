@@ -15,7 +15,7 @@ use Rattle.placement.proofs.Conjunctions.{both-true, false-true}
 use Rattle.placement.proofs.Tests.{by-test, inRange-bounds}
 use Rattle.placement.proofs.Each.{each-append}
 use Rattle.placement.proofs.Formed.{disk-count, disk-entries, plan-rack, plan-disks}
-use Rattle.transfer_schedule.specs.Stored.{StoredCopy, stored, ascending, filmsOf, storedFrom, storedCopies, isStored}
+use Rattle.transfer_schedule.specs.Stored.{StoredCopy, storedCopy, ascending, filmsOf, storedFrom, storedCopies, isStored}
 use Rattle.transfer_schedule.specs.Counts.{countBy}
 use Rattle.transfer_schedule.specs.Fits.{CopyFits}
 use Rattle.transfer_schedule.proofs.Sources.{DisksAscend, holds-from}
@@ -23,7 +23,7 @@ use Rattle.transfer_schedule.proofs.HeldFilms.{stored-append, same-disk
 use Rattle.transfer_schedule.proofs.Inserted.{ascending-length, ascending-count, ascending-each}
 
 -- Copies on a disk of number up to 8 with films of 16 bits.
-copies-fit : (number : ℕ) (films : List ℕ) → number ≤ 8 → Each (λ f. f < 65536) films → Each CopyFits (map (stored number) films)
+copies-fit : (number : ℕ) (films : List ℕ) → number ≤ 8 → Each (λ f. f < 65536) films → Each CopyFits (map (storedCopy number) films)
 copies-fit number [] few all = tt
 copies-fit number (f ∷ films) few all = (record { disk = few; film = all .0 }, copies-fit number films few (all .1))
 
@@ -40,7 +40,7 @@ fits-from rack [] number e few = tt
 fits-from [] (cs ∷ rest) number e few = false-true e
 fits-from (d ∷ ds) (cs ∷ rest) number e few =
     let both = both-true (diskAccepted d (map unmarked cs)) (disksAccepted ds (layoutOf rest)) e in
-    each-append CopyFits (map (stored number) (ascending (filmsOf cs))) (storedFrom (suc number) rest)
+    each-append CopyFits (map (storedCopy number) (ascending (filmsOf cs))) (storedFrom (suc number) rest)
     (copies-fit number (ascending (filmsOf cs)) (omega arith)
     (ascending-each (λ (f : ℕ). f < 65536) (filmsOf cs) (films-fit (d .load) cs (disk-entries d (map unmarked cs) (both .0)))))
     (fits-from ds rest (suc number) (both .1) (omega arith))
@@ -57,7 +57,7 @@ ascend-lower low number (c ∷ cs) h above = (omega (arith, above .0), above .1)
 -- The copies of a disk stand in front of those of the disks behind it.
 ascend-disk :
     (low number : ℕ) (films : List ℕ) (rest : List StoredCopy) → low ≤ number → DisksAscend number rest
-    → DisksAscend low (map (stored number) films ++ rest)
+    → DisksAscend low (map (storedCopy number) films ++ rest)
 ascend-disk low number [] rest h above = ascend-lower low number rest h above
 ascend-disk low number (f ∷ films) rest h above = (h, ascend-disk number number films rest (omega arith) above)
 
@@ -82,8 +82,8 @@ few-from (d ∷ ds) (cs ∷ rest) number e ranges =
     let within = both-true (diskInRange d) (allInRange ds) ranges in
     omega (
       arith,
-      length-append (map (stored number) (ascending (filmsOf cs))) (storedFrom (suc number) rest),
-      length-map (ascending (filmsOf cs)) (stored number),
+      length-append (map (storedCopy number) (ascending (filmsOf cs))) (storedFrom (suc number) rest),
+      length-map (ascending (filmsOf cs)) (storedCopy number),
       ascending-length (filmsOf cs),
       length-map cs (λ (c : Copy). c .film),
       length-map cs unmarked,
@@ -102,9 +102,9 @@ stored-few p e few =
     )
 
 -- The disks behind a disk are none of its own.
-higher-disks : (n film : ℕ) (copies : List (List Copy)) → isStored (stored n film) (storedFrom (suc n) copies) ≡ false
+higher-disks : (n film : ℕ) (copies : List (List Copy)) → isStored (storedCopy n film) (storedFrom (suc n) copies) ≡ false
 higher-disks n film copies =
-    by-test (isStored (stored n film) (storedFrom (suc n) copies))
+    by-test (isStored (storedCopy n film) (storedFrom (suc n) copies))
     (λ held.
     let above : suc n ≤ n = holds-from (suc n) (storedFrom (suc n) copies) n film (ascend-from (suc n) (suc n) copies (omega arith)) held in
     absurd (omega (arith, above)))
@@ -115,15 +115,15 @@ pub films-occur : (film : ℕ) (copies : List Copy) → countBy (eqb film) (film
 films-occur film [] = refl
 films-occur film (c ∷ cs) = ap (λ (n : ℕ). cond (eqb film (c .film)) 1 0 + n) (films-occur film cs)
 
--- The first disk's films stand in front, and those of the others behind them.
+-- Among the copies of disks numbered from one on, a copy stands exactly where its disk has the film.
 stored-from :
     (number d film : ℕ) (copies : List (List Copy))
-    → isStored (stored (number + d) film) (storedFrom number copies) ≡ leb 1 (occurrences film (getD (layoutOf copies) d []))
+    → isStored (storedCopy (number + d) film) (storedFrom number copies) ≡ leb 1 (occurrences film (getD (layoutOf copies) d []))
 stored-from number d film [] = refl
 stored-from number zero film (cs ∷ rest) =
     let here : number + 0 ≡ number = omega arith in
-    ap (λ (n : ℕ). isStored (stored n film) (storedFrom number (cs ∷ rest))) here
-    ∙ stored-append (stored number film) (map (stored number) (ascending (filmsOf cs))) (storedFrom (suc number) rest)
+    ap (λ (n : ℕ). isStored (storedCopy n film) (storedFrom number (cs ∷ rest))) here
+    ∙ stored-append (storedCopy number film) (map (storedCopy number) (ascending (filmsOf cs))) (storedFrom (suc number) rest)
     ∙ ap₂ _||_ (same-disk number film (ascending (filmsOf cs))) (higher-disks number film rest)
     ∙ alone (leb 1 (countBy (eqb film) (ascending (filmsOf cs))))
     ∙ ap (leb 1) (ascending-count (eqb film) (filmsOf cs) ∙ films-occur film cs)
@@ -133,15 +133,15 @@ stored-from number zero film (cs ∷ rest) =
     alone false = refl
 stored-from number (suc d) film (cs ∷ rest) =
     let there : number + suc d ≡ suc number + d = omega arith in
-    stored-append (stored (number + suc d) film) (map (stored number) (ascending (filmsOf cs))) (storedFrom (suc number) rest)
-    ∙ ap (λ (b : Bool). b || isStored (stored (number + suc d) film) (storedFrom (suc number) rest))
+    stored-append (storedCopy (number + suc d) film) (map (storedCopy number) (ascending (filmsOf cs))) (storedFrom (suc number) rest)
+    ∙ ap (λ (b : Bool). b || isStored (storedCopy (number + suc d) film) (storedFrom (suc number) rest))
     (other-disk (number + suc d) number film (ascending (filmsOf cs)) (λ e. omega arith))
-    ∙ ap (λ (n : ℕ). isStored (stored n film) (storedFrom (suc number) rest)) there
+    ∙ ap (λ (n : ℕ). isStored (storedCopy n film) (storedFrom (suc number) rest)) there
     ∙ stored-from (suc number) d film rest
 
 -- A copy is stored on a disk exactly where the plan has its film there.
 pub stored-is :
-    (p : Plan) (d film : ℕ) → isStored (stored (suc d) film) (storedCopies p) ≡ leb 1 (occurrences film (getD (layoutOf (p .copies)) d []))
+    (p : Plan) (d film : ℕ) → isStored (storedCopy (suc d) film) (storedCopies p) ≡ leb 1 (occurrences film (getD (layoutOf (p .copies)) d []))
 stored-is p d film =
     let here : suc d ≡ 1 + d = omega arith in
-    ap (λ (n : ℕ). isStored (stored n film) (storedCopies p)) here ∙ stored-from 1 d film (p .copies)
+    ap (λ (n : ℕ). isStored (storedCopy n film) (storedCopies p)) here ∙ stored-from 1 d film (p .copies)

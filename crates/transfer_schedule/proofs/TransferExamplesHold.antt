@@ -6,11 +6,11 @@ use mathlib.Core.Logic.{inl, inr}
 use native.Mathlib.Omega.{arith}
 use Rattle.plan_text.specs.Decimal.{decimal}
 use Rattle.plan_text.specs.Reading.{planRead}
-use Rattle.transfer_schedule.specs.Stored.{StoredCopy, stored, ascending, isStored, sourceOf}
+use Rattle.transfer_schedule.specs.Stored.{StoredCopy, storedCopy, ascending, isStored, sourceOf}
 use Rattle.transfer_schedule.specs.Schedule.{Transfer, transfer, bothFree, earliest, lacking, schedule, roundsOf}
-use Rattle.transfer_schedule.specs.Counts.{countTable, tableSum}
-use Rattle.transfer_schedule.specs.Transfers.{sameLine, transferEntry, transferIn, transferring, entriesAfter, tableAfter, countsOf}
-use Rattle.transfer_schedule.specs.Words.{StandsBefore, Ordered, partsIn, partsOf, mostParts}
+use Rattle.transfer_schedule.specs.Counts.{countTable, countAt, tableSum}
+use Rattle.transfer_schedule.specs.Transfers.{sameNumbers, transferEntry, transferIn, transferring, entriesAfter, tableAfter, countsOf}
+use Rattle.transfer_schedule.specs.Words.{StandsBefore, InOrder, partsIn, partsOf, mostParts}
 use Rattle.transfer_schedule.specs.TransferExamples.{at, noCounts, triangleTransfers, pathTransfers}
 use Rattle.transfer_schedule.specs.TransferExamples.{transferRows, transferOutcome, transferExpected}
 
@@ -21,8 +21,8 @@ transfers-hold = refl
 
 -- The same bytes are the same line; other bytes, and a line with more behind it, are not.
 pub line-hold :
-    (sameLine (40 ∷ 41 ∷ []) (40 ∷ 41 ∷ []) ≡ true) × (sameLine (40 ∷ 41 ∷ []) (40 ∷ 42 ∷ []) ≡ false)
-    × (sameLine (40 ∷ []) (40 ∷ 41 ∷ []) ≡ false) × (sameLine (40 ∷ 41 ∷ []) (40 ∷ []) ≡ false)
+    (sameNumbers (40 ∷ 41 ∷ []) (40 ∷ 41 ∷ []) ≡ true) × (sameNumbers (40 ∷ 41 ∷ []) (40 ∷ 42 ∷ []) ≡ false)
+    × (sameNumbers (40 ∷ []) (40 ∷ 41 ∷ []) ≡ false) × (sameNumbers (40 ∷ 41 ∷ []) (40 ∷ []) ≡ false)
 line-hold = (refl, refl, refl, refl)
 
 -- A transfer as a number, 256 × 2³² + 8 × 2²⁴ + 3 × 2¹⁶ + 65,535, and taken apart.
@@ -57,6 +57,9 @@ counts-hold = refl
 pub cells-hold : countTable counted ≡ at 8 1 2 (at 0 8 1 noCounts)
 cells-hold = refl
 
+pub count-at-hold : (countAt (countTable counted) 8 1 ≡ 2) × (countAt (countTable counted) 1 8 ≡ 0) × (countAt (countTable counted) 0 8 ≡ 1)
+count-at-hold = (refl, refl, refl)
+
 pub sum-hold : (tableSum (countTable counted) ≡ 3) × (tableSum noCounts ≡ 0)
 sum-hold = (refl, refl)
 
@@ -66,9 +69,9 @@ ascending-hold = refl
 
 -- Film 8 on disks 1 and 2, film 7 on disks 2 and 3.
 abbrev held : List StoredCopy
-held = stored 1 8 ∷ stored 2 7 ∷ stored 2 8 ∷ stored 3 7 ∷ []
+held = storedCopy 1 8 ∷ storedCopy 2 7 ∷ storedCopy 2 8 ∷ storedCopy 3 7 ∷ []
 
-pub stored-hold : (isStored (stored 2 7) held ≡ true) × (isStored (stored 1 7) held ≡ false) × (isStored (stored 2 9) held ≡ false)
+pub stored-hold : (isStored (storedCopy 2 7) held ≡ true) × (isStored (storedCopy 1 7) held ≡ false) × (isStored (storedCopy 2 9) held ≡ false)
 stored-hold = (refl, refl, refl)
 
 -- The lowest disk that has the film, or the loader.
@@ -77,7 +80,7 @@ source-hold = (refl, refl, refl)
 
 -- The copies that their disk lacks: film 7 on disk 2 is there, and on disk 1 it is not.
 pub lacking-hold :
-    lacking held (stored 1 7 ∷ stored 1 8 ∷ stored 2 7 ∷ stored 2 9 ∷ stored 3 8 ∷ []) ≡ stored 1 7 ∷ stored 2 9 ∷ stored 3 8 ∷ []
+    lacking held (storedCopy 1 7 ∷ storedCopy 1 8 ∷ storedCopy 2 7 ∷ storedCopy 2 9 ∷ storedCopy 3 8 ∷ []) ≡ storedCopy 1 7 ∷ storedCopy 2 9 ∷ storedCopy 3 8 ∷ []
 lacking-hold = refl
 
 -- Transfers in rounds 1, 2 and 4.
@@ -98,7 +101,7 @@ free-hold = (refl, refl, refl, refl)
 
 -- The path's transfers by stored copies. They touch disks 1, 2 and 4 twice, disk 3 and the loader once, and take 3 rounds.
 pub path-hold :
-    schedule (stored 1 2 ∷ stored 2 3 ∷ stored 4 4 ∷ []) (stored 1 1 ∷ stored 2 2 ∷ stored 3 4 ∷ stored 4 3 ∷ []) ≡ pathTransfers
+    schedule (storedCopy 1 2 ∷ storedCopy 2 3 ∷ storedCopy 4 4 ∷ []) (storedCopy 1 1 ∷ storedCopy 2 2 ∷ storedCopy 3 4 ∷ storedCopy 4 3 ∷ []) ≡ pathTransfers
 path-hold = refl
 
 pub path-parts-hold : map (λ end. partsOf end pathTransfers) (0 ∷ 1 ∷ 2 ∷ 3 ∷ 4 ∷ 5 ∷ []) ≡ 1 ∷ 2 ∷ 2 ∷ 1 ∷ 2 ∷ 0 ∷ []
@@ -117,19 +120,19 @@ pub parts-in-hold :
 parts-in-hold = (refl, refl, refl, refl)
 
 -- Copies in order: by disk, then film; neither a lower film nor a lower disk comes later.
-pub ordered-hold : Ordered (stored 1 4 ∷ stored 1 5 ∷ stored 2 1 ∷ [])
+pub ordered-hold : InOrder (storedCopy 1 4 ∷ storedCopy 1 5 ∷ storedCopy 2 1 ∷ [])
 ordered-hold = (inr (refl, omega arith), (inl (omega arith), tt))
 
-pub film-later-hold : Ordered (stored 1 5 ∷ stored 1 4 ∷ []) → ⊥
+pub film-later-hold : InOrder (storedCopy 1 5 ∷ storedCopy 1 4 ∷ []) → ⊥
 film-later-hold o = refute (o .0)
   where
-    refute : StandsBefore (stored 1 5) (stored 1 4) → ⊥
+    refute : StandsBefore (storedCopy 1 5) (storedCopy 1 4) → ⊥
     refute (inl less) = omega arith
     refute (inr both) = omega (arith, both .1)
 
-pub disk-later-hold : Ordered (stored 2 1 ∷ stored 1 9 ∷ []) → ⊥
+pub disk-later-hold : InOrder (storedCopy 2 1 ∷ storedCopy 1 9 ∷ []) → ⊥
 disk-later-hold o = refute (o .0)
   where
-    refute : StandsBefore (stored 2 1) (stored 1 9) → ⊥
+    refute : StandsBefore (storedCopy 2 1) (storedCopy 1 9) → ⊥
     refute (inl less) = omega arith
     refute (inr both) = omega (arith, both .0)

@@ -6,11 +6,11 @@ use native.Mathlib.Omega.{arith}
 use lib.ListN.{length}
 use Rattle.refusal.specs.Verdict.{Verdict, given, refused, Numbers}
 use Rattle.placement.specs.Plan.{Plan}
-use Rattle.plan_text.specs.ReadCall.{answerTo as answerFor, textVerdict, judging}
+use Rattle.plan_text.specs.ReadCall.{answerTo, textVerdict, judging}
 use Rattle.plan_text.proofs.Verdicts.{verdict-same, verdict-text}
 use Rattle.transfer_schedule.specs.Stored.{storedCopies}
 use Rattle.transfer_schedule.specs.Schedule.{Transfer}
-use Rattle.transfer_schedule.specs.Transfers.{Plans, textsVerdict, transfersOf, transfersVerdict, Sums, answerTo, transferring, entriesAfter}
+use Rattle.transfer_schedule.specs.Transfers.{Plans, textsVerdict, transfersOf, transfersVerdict, ScheduleSize, transfersAnswer, transferring, entriesAfter}
 use Rattle.transfer_schedule.specs.TransfersPromise.{Listed, TransfersPromise}
 use Rattle.transfer_schedule.proofs.StoredPlans.{stored-is}
 use Rattle.transfer_schedule.proofs.Ordered.{stored-ordered, transfers-ordered}
@@ -19,19 +19,19 @@ use Rattle.transfer_schedule.proofs.ReadPlans.{old-formed, new-formed, 
 use Rattle.transfer_schedule.proofs.Judged.{judged-refused, judged-given, by-call, answer-by, list-by}
 
 -- The numbers of a text by its verdict.
-judged-refusal : (text : List ℕ) (v : Verdict Plan) → textVerdict text ≡ v → judging text .refusal ≡ answerFor v .refusal
+judged-refusal : (text : List ℕ) (v : Verdict Plan) → textVerdict text ≡ v → judging text .refusal ≡ answerTo v .refusal
 unfolding judging
-judged-refusal text v e = ap (λ (x : Verdict Plan). answerFor x .refusal) e
+judged-refusal text v e = ap (λ (x : Verdict Plan). answerTo x .refusal) e
 
-judged-second : (text : List ℕ) (v : Verdict Plan) → textVerdict text ≡ v → judging text .second ≡ answerFor v .second
+judged-second : (text : List ℕ) (v : Verdict Plan) → textVerdict text ≡ v → judging text .second ≡ answerTo v .second
 unfolding judging
-judged-second text v e = ap (λ (x : Verdict Plan). answerFor x .second) e
+judged-second text v e = ap (λ (x : Verdict Plan). answerTo x .second) e
 
 module _ (old new : List ℕ) (places rows : ℕ) where
   -- The refusal of a call by its verdict,
   pub refusal-by :
-      (v : Verdict (List Transfer)) → transfersVerdict old new places rows ≡ v → transferring old new places rows .refusal ≡ answerTo v .refusal
-  refusal-by v e = sym (ap (λ (a : Numbers Sums). a .refusal) (answer-by old new places rows v e))
+      (v : Verdict (List Transfer)) → transfersVerdict old new places rows ≡ v → transferring old new places rows .refusal ≡ transfersAnswer v .refusal
+  refusal-by v e = sym (ap (λ (a : Numbers ScheduleSize). a .refusal) (answer-by old new places rows v e))
 
   -- which is that of a text where the texts are refused with its numbers.
   abbrev AsText : List ℕ → Type 0
@@ -41,8 +41,8 @@ module _ (old new : List ℕ) (places rows : ℕ) where
   as-text : (text : List ℕ) (n s : ℕ) → textVerdict text ≡ refused n s → textsVerdict old new ≡ refused n s → AsText text
   as-text text n s e f =
       let same = answer-by old new places rows (refused n s) (judged-refused old new places rows n s f) in (
-        sym (ap (λ (a : Numbers Sums). a .refusal) same) ∙ sym (judged-refusal text (refused n s) e),
-        sym (ap (λ (a : Numbers Sums). a .second) same) ∙ sym (judged-second text (refused n s) e),
+        sym (ap (λ (a : Numbers ScheduleSize). a .refusal) same) ∙ sym (judged-refusal text (refused n s) e),
+        sym (ap (λ (a : Numbers ScheduleSize). a .second) same) ∙ sym (judged-second text (refused n s) e),
       )
 
   -- So it is for the old text,
@@ -75,15 +75,15 @@ module _ (old new entry : List ℕ) (rows : ℕ) where
         oldText = verdict-same old (both .old) (read .first);
         newFormed = new-formed old new both read;
         newText = verdict-same new (both .new) (read .second);
-        fewDisks = (read .firstFew, read .secondFew);
-        sameLine = read .line;
+        disks = (read .firstFew, read .secondFew);
+        lines = read .line;
         asPlanned = (stored-is (both .old), stored-is (both .new));
         ordered =
             transfers-ordered (storedCopies (both .old)) (storedCopies (both .new))
             (stored-ordered (both .new) (new-formed old new both read));
         scheduled = read-words old new both read;
         listed = sym (list-by old new entry rows (given (transfersOf both)) f);
-        told = sym (ap (λ (a : Numbers Sums). a .values) (answer-by old new (length entry) rows (given (transfersOf both)) f));
+        told = sym (ap (λ (a : Numbers ScheduleSize). a .values) (answer-by old new (length entry) rows (given (transfersOf both)) f));
       }
 
   by-definition : TransfersPromise old new entry (entriesAfter old new entry rows) rows (transferring old new (length entry) rows)
@@ -115,8 +115,8 @@ module _ (old new entry : List ℕ) (rows : ℕ) where
 
   -- An answer and a list that are the definition's keep the whole promise.
   pub transfers-promise :
-      {exit : List ℕ} {answer : Numbers Sums} → answer ≡ transferring old new (length entry) rows → exit ≡ entriesAfter old new entry rows
+      {exit : List ℕ} {answer : Numbers ScheduleSize} → answer ≡ transferring old new (length entry) rows → exit ≡ entriesAfter old new entry rows
       → TransfersPromise old new entry exit rows answer
   transfers-promise {exit} {answer} numbers list =
-      subst (λ (a : Numbers Sums). TransfersPromise old new entry exit rows a) (sym numbers)
+      subst (λ (a : Numbers ScheduleSize). TransfersPromise old new entry exit rows a) (sym numbers)
       (subst (λ (x : List ℕ). TransfersPromise old new entry x rows (transferring old new (length entry) rows)) (sym list) by-definition)

@@ -20,7 +20,7 @@ abbrev pub valuesFrom : {A : Type 0} → (ℕ → A) → (number n : ℕ) → Li
 valuesFrom f number zero = []
 valuesFrom f number (suc n) = f number ∷ valuesFrom f (suc number) n
 
--- The loader and the disks of a rack of eight: the ends of transfers.
+-- How many ends transfers have: the loader and eight disks.
 abbrev pub ends : ℕ
 ends = 9
 

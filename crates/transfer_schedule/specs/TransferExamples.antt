@@ -6,7 +6,7 @@ use lib.ListN.{length, replicate, getD, set}
 use Rattle.refusal.specs.Verdict.{Numbers}
 use Rattle.plan_text.specs.Examples.{textLines}
 use Rattle.transfer_schedule.specs.Schedule.{Transfer, transfer}
-use Rattle.transfer_schedule.specs.Transfers.{Sums, sums, transferEntry, transferring, entriesAfter, tableAfter, countsOf}
+use Rattle.transfer_schedule.specs.Transfers.{ScheduleSize, scheduleSize, transferEntry, transferring, entriesAfter, tableAfter, countsOf}
 
 -- Two texts with what is lent; then what is expected: the numbers, the list, the table, and the counts of the two texts by themselves.
 pub record TransferRow : Type 0 where
@@ -14,17 +14,17 @@ pub record TransferRow : Type 0 where
   pub new : List ℕ
   pub list : List ℕ
   pub table : List (List ℕ)
-  pub numbers : Numbers Sums
+  pub numbers : Numbers ScheduleSize
   pub listThen : List ℕ
   pub tableThen : List (List ℕ)
   pub counts : List (List ℕ)
 
 -- A list of so many places and a table of so many rows, lent with 77 everywhere.
-abbrev places : ℕ → List ℕ
-places n = replicate n 77
+abbrev lentPlaces : ℕ → List ℕ
+lentPlaces n = replicate n 77
 
-abbrev rows : ℕ → List (List ℕ)
-rows n = replicate n (replicate 9 77)
+abbrev lentRows : ℕ → List (List ℕ)
+lentRows n = replicate n (replicate 9 77)
 
 -- Nine rows of nine zeros, and a table with a number in the row of a source and the column of a destination.
 abbrev pub noCounts : List (List ℕ)
@@ -34,8 +34,8 @@ abbrev pub at : (source destination count : ℕ) → List (List ℕ) → List (L
 at source destination count table = set table source (set (getD table source []) destination count)
 
 -- The numbers of a refusal.
-abbrev declined : (number second : ℕ) → Numbers Sums
-declined number second = record { refusal = number; second = second; values = sums 0 0 }
+abbrev declined : (number second : ℕ) → Numbers ScheduleSize
+declined number second = record { refusal = number; second = second; values = scheduleSize 0 0 }
 
 -- A row of n transfers, with so many places and rows more than they need: n, the rounds, each transfer as source, destination, film, round, and the counts.
 abbrev copiesWith :
@@ -43,11 +43,11 @@ abbrev copiesWith :
 copiesWith spare spareRows old new n rounds ts counts = record {
   old = old;
   new = new;
-  list = places (n + spare);
-  table = rows (9 + spareRows);
-  numbers = record { refusal = 0; second = 0; values = sums n rounds };
-  listThen = map transferEntry ts ++ places spare;
-  tableThen = counts ++ rows spareRows;
+  list = lentPlaces (n + spare);
+  table = lentRows (9 + spareRows);
+  numbers = record { refusal = 0; second = 0; values = scheduleSize n rounds };
+  listThen = map transferEntry ts ++ lentPlaces spare;
+  tableThen = counts ++ lentRows spareRows;
   counts = counts;
 }
 
@@ -60,11 +60,11 @@ abbrev refusesWith : (n m : ℕ) → (old new : List ℕ) → (number second : �
 refusesWith n m old new number second = record {
   old = old;
   new = new;
-  list = places n;
-  table = rows m;
+  list = lentPlaces n;
+  table = lentRows m;
   numbers = declined number second;
-  listThen = places n;
-  tableThen = rows m;
+  listThen = lentPlaces n;
+  tableThen = lentRows m;
   counts = noCounts;
 }
 
@@ -77,11 +77,11 @@ abbrev lacksSpace : (n m : ℕ) → (old new : List ℕ) → (counts : List (Lis
 lacksSpace n m old new counts = record {
   old = old;
   new = new;
-  list = places n;
-  table = rows m;
+  list = lentPlaces n;
+  table = lentRows m;
   numbers = declined 7 0;
-  listThen = places n;
-  tableThen = rows m;
+  listThen = lentPlaces n;
+  tableThen = lentRows m;
   counts = counts;
 }
 
@@ -124,14 +124,14 @@ unsortedTransfers = transfer 0 1 5 1 ∷ transfer 0 1 41 2 ∷ transfer 0 1 300 
 abbrev unsortedCounts : List (List ℕ)
 unsortedCounts = at 0 1 3 (at 0 2 2 noCounts)
 
-abbrev byNumber : TransferRow
-byNumber = copies emptyRack unsorted 5 5 unsortedTransfers unsortedCounts
+abbrev filmsByNumber : TransferRow
+filmsByNumber = copies emptyRack unsorted 5 5 unsortedTransfers unsortedCounts
 
 -- The same with a place for each transfer and nine rows, and no more.
 abbrev exactly : TransferRow
 exactly = copiesWith 0 0 emptyRack unsorted 5 5 unsortedTransfers unsortedCounts
 
--- Film 7 is on disks 2 and 3, film 8 on disks 1 and 2: the lowest of the two is the source.
+-- Film 7 is on disks 2 and 3, film 8 on disks 1 and 2: the lower of the two is the source.
 abbrev lowestSource : TransferRow
 lowestSource =
     copies
@@ -172,13 +172,27 @@ destinationBusy =
     (text "(rack 3 2 9)" ("(disk 1)" ∷ "(disk 2)" ∷ "(disk 3 (2 1) (1 1))" ∷ []) "(served 2 0)")
     2 2 (transfer 1 3 1 1 ∷ transfer 2 3 2 2 ∷ []) (at 1 3 1 (at 2 3 1 noCounts))
 
--- Transfers that share no end run in one round.
+-- Transfers that share no end run in one round. A place for each round is not enough.
+abbrev besideOld : List ℕ
+besideOld = text "(rack 4 2 9)" ("(disk 1 (1 1))" ∷ "(disk 2)" ∷ "(disk 3 (3 1))" ∷ "(disk 4)" ∷ []) "(served 2 0)"
+
+abbrev besideNew : List ℕ
+besideNew = text "(rack 4 2 9)" ("(disk 1)" ∷ "(disk 2 (1 1))" ∷ "(disk 3)" ∷ "(disk 4 (3 1))" ∷ []) "(served 2 0)"
+
 abbrev sideBySide : TransferRow
-sideBySide =
+sideBySide = copies besideOld besideNew 2 1 (transfer 1 2 1 1 ∷ transfer 3 4 3 1 ∷ []) (at 1 2 1 (at 3 4 1 noCounts))
+
+abbrev placeForRounds : TransferRow
+placeForRounds = lacksSpace 1 9 besideOld besideNew (at 1 2 1 (at 3 4 1 noCounts))
+
+-- Disk 1 is the source of two transfers, which take a round each, and the loader's takes the first. Film 7 comes from disk 1, the lower of the two that
+-- hold it, although disk 2 is free earlier, has fewer slots and names it first; on disk 1 it is marked and stays. Disks are taken by number, not by slots.
+abbrev twoFromOne : TransferRow
+twoFromOne =
     copies
-    (text "(rack 4 2 9)" ("(disk 1 (1 1))" ∷ "(disk 2)" ∷ "(disk 3 (3 1))" ∷ "(disk 4)" ∷ []) "(served 2 0)")
-    (text "(rack 4 2 9)" ("(disk 1)" ∷ "(disk 2 (1 1))" ∷ "(disk 3)" ∷ "(disk 4 (3 1))" ∷ []) "(served 2 0)")
-    2 1 (transfer 1 2 1 1 ∷ transfer 3 4 3 1 ∷ []) (at 1 2 1 (at 3 4 1 noCounts))
+    (text "(mixed (4 8) (2 4) (2 4) (2 4))" ("(disk 1 (8 1) (7 1))" ∷ "(disk 2 (7 1))" ∷ "(disk 3)" ∷ "(disk 4)" ∷ []) "(served 3 0)")
+    (text "(mixed (4 8) (2 4) (2 4) (2 4))" ("(disk 1 (7 1 held) (5 1))" ∷ "(disk 2 (7 1))" ∷ "(disk 3 (8 1))" ∷ "(disk 4 (7 1))" ∷ []) "(served 5 0)")
+    3 3 (transfer 0 1 5 1 ∷ transfer 1 3 8 2 ∷ transfer 1 4 7 3 ∷ []) (at 0 1 1 (at 1 3 1 (at 1 4 1 noCounts)))
 
 -- A rack of unequal disks. Film 9 is left in the old plan, so it comes from the loader, to disk 1 in round 2 when film 3 is through. On disk 2, film 2
 -- waits for disk 1 until round 3; film 4 finds disk 2 busy in rounds 1 and 3 and the loader in 2, film 9 so too and disk 2 in 4; film 8 is there.
@@ -247,16 +261,17 @@ eightDisks =
 -- All that is copied, and that has space enough.
 abbrev copied : List TransferRow
 copied =
-    nothing ∷ nothingKept ∷ exchange ∷ byNumber ∷ exactly ∷ lowestSource ∷ marksIgnored ∷ withoutViewers ∷ earlierRound ∷ destinationBusy
-    ∷ sideBySide ∷ unequal ∷ onBoth ∷ leftFilms ∷ triangle ∷ path ∷ eightDisks ∷ []
+    nothing ∷ nothingKept ∷ exchange ∷ filmsByNumber ∷ exactly ∷ lowestSource ∷ marksIgnored ∷ withoutViewers ∷ earlierRound ∷ destinationBusy
+    ∷ sideBySide ∷ twoFromOne ∷ unequal ∷ onBoth ∷ leftFilms ∷ triangle ∷ path ∷ eightDisks ∷ []
 
--- A place too few, no place, a row too few, and no row, also where nothing is copied.
+-- A place too few, no place, a row too few, no row; a place for each round; and a row too few where nothing is copied.
 abbrev withoutSpace : List TransferRow
 withoutSpace =
     lacksSpace 4 9 emptyRack unsorted unsortedCounts
     ∷ lacksSpace 0 10 emptyRack unsorted unsortedCounts
     ∷ lacksSpace 5 8 emptyRack unsorted unsortedCounts
     ∷ lacksSpace 6 0 emptyRack unsorted unsortedCounts
+    ∷ placeForRounds
     ∷ lacksSpace 0 8 twoFilled twoFilled noCounts
     ∷ []
 
@@ -331,7 +346,7 @@ transferRows = copied ++ (withoutSpace ++ (textsRefused ++ (manyDisks ++ linesDi
 
 -- What the definitions give for a row, and what it expects.
 pub record TransferOutcome : Type 0 where
-  pub numbers : Numbers Sums
+  pub numbers : Numbers ScheduleSize
   pub list : List ℕ
   pub table : List (List ℕ)
   pub counts : List (List ℕ)

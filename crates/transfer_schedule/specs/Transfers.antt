@@ -24,17 +24,17 @@ followedWith (refused number second) following = refused number second
 abbrev pub fewDisks : List Disk → Bool
 fewDisks rack = leb (length rack) mostTransferDisks
 
--- Two lines are the same, byte by byte.
-abbrev pub sameLine : List ℕ → List ℕ → Bool
-sameLine [] [] = true
-sameLine [] (y ∷ ys) = false
-sameLine (x ∷ xs) [] = false
-sameLine (x ∷ xs) (y ∷ ys) = eqb x y && sameLine xs ys
+-- Two lists of numbers, as the bytes of two lines, are the same.
+abbrev pub sameNumbers : List ℕ → List ℕ → Bool
+sameNumbers [] [] = true
+sameNumbers [] (y ∷ ys) = false
+sameNumbers (x ∷ xs) [] = false
+sameNumbers (x ∷ xs) (y ∷ ys) = eqb x y && sameNumbers xs ys
 
 -- "14, more than 8 disks in either; 15, the first lines differ."
 abbrev pub racksJudged : {A : Type 0} → (old new : List Disk) → Verdict A → Verdict A
 racksJudged old new following =
-    unless (fewDisks old && fewDisks new) 14 0 (unless (sameLine (firstLine old) (firstLine new)) 15 0 following)
+    unless (fewDisks old && fewDisks new) 14 0 (unless (sameNumbers (firstLine old) (firstLine new)) 15 0 following)
 
 -- Two plans, the old and the new one.
 pub record Plans : Type 0 where
@@ -67,20 +67,20 @@ transferEntry t = ((t .round * 256 + t .destination) * 256 + t .source) * 65536 
 abbrev pub transferIn : ℕ → Transfer
 transferIn entry = transfer (entry / 65536 % 256) (entry / 65536 / 256 % 256) (entry % 65536) (entry / 65536 / 256 / 256)
 
--- "The answer: number of transfers and number of rounds."
-pub record Sums : Type 0 where
+-- The values of an answer: the number of transfers and the number of rounds.
+pub record ScheduleSize : Type 0 where
   pub transfers : ℕ
   pub rounds : ℕ
 
-abbrev pub sums : ℕ → ℕ → Sums
-sums transfers rounds = record { transfers = transfers; rounds = rounds }
+abbrev pub scheduleSize : ℕ → ℕ → ScheduleSize
+scheduleSize transfers rounds = record { transfers = transfers; rounds = rounds }
 
-abbrev pub sumsOf : List Transfer → Sums
-sumsOf ts = sums (length ts) (roundsOf ts)
+abbrev pub sizeOf : List Transfer → ScheduleSize
+sizeOf ts = scheduleSize (length ts) (roundsOf ts)
 
 -- The numbers that a verdict gives.
-abbrev pub answerTo : Verdict (List Transfer) → Numbers Sums
-answerTo v = answered (sums 0 0) sumsOf v
+abbrev pub transfersAnswer : Verdict (List Transfer) → Numbers ScheduleSize
+transfersAnswer v = answered (scheduleSize 0 0) sizeOf v
 
 -- The lent list has an entry for each transfer in front, and is untouched beyond them.
 abbrev pub listGiven : List ℕ → Verdict (List Transfer) → List ℕ
@@ -90,13 +90,13 @@ listGiven list v = afterwards list (λ ts. written (map transferEntry ts) list) 
 abbrev pub tableGiven : List (List ℕ) → Verdict (List Transfer) → List (List ℕ)
 tableGiven table v = afterwards table (λ ts. countTable ts ++ drop ends table) v
 
--- The counts by themselves, "all zero where the texts are refused": the table of no transfers.
+-- The counts by themselves, all zero where the texts are refused: the table of no transfers.
 abbrev pub countsGiven : Verdict Plans → List (List ℕ)
 countsGiven v = afterwards (countTable []) (λ both. countTable (transfersOf both)) v
 
 -- The answer for two texts and a list and a table of these lengths.
-unfoldable pub transferring : (old new : List ℕ) → (places rows : ℕ) → Numbers Sums
-transferring old new places rows = answerTo (transfersVerdict old new places rows)
+unfoldable pub transferring : (old new : List ℕ) → (places rows : ℕ) → Numbers ScheduleSize
+transferring old new places rows = transfersAnswer (transfersVerdict old new places rows)
 
 -- The list after it.
 unfoldable pub entriesAfter : (old new list : List ℕ) → (rows : ℕ) → List ℕ

@@ -1,7 +1,7 @@
 -- A schedule in document 02's words: what every list of transfers keeps.
 use Prim.Native.Nat.{ℕ, suc, _+_, _*_, _≤_, _<_, max}
 use mathlib.Core.Path.{_≡_}
-use mathlib.Core.Bool.{Bool, true, false, cond, not, _&&_}
+use mathlib.Core.Bool.{Bool, true, false, not, _&&_}
 use mathlib.Core.List.{List, [], _∷_, map}
 use mathlib.Core.Logic.{_⊎_}
 use lib.Dec.{leb, eqb}
@@ -10,7 +10,7 @@ use Rattle.placement.specs.Items.{occurrences}
 use Rattle.placement.specs.Copies.{layoutOf}
 use Rattle.placement.specs.Plan.{Plan}
 use Rattle.placement.specs.WellFormed.{Each}
-use Rattle.transfer_schedule.specs.Stored.{StoredCopy, stored, isStored, storedCopies}
+use Rattle.transfer_schedule.specs.Stored.{StoredCopy, storedCopy, isStored, storedCopies}
 use Rattle.transfer_schedule.specs.Schedule.{Transfer, transfer, takesPart, bothFree, lacking, roundsOf}
 use Rattle.transfer_schedule.specs.Counts.{countBy, valuesFrom, ends, countTable, tableSum}
 
@@ -20,29 +20,29 @@ hasFilm p d film = leb 1 (occurrences film (getD (layoutOf (p .copies)) d []))
 
 -- The stored copies of a plan are its films by disk.
 abbrev pub StoredAsPlanned : Plan → Type 0
-StoredAsPlanned p = (d film : ℕ) → isStored (stored (suc d) film) (storedCopies p) ≡ hasFilm p d film
+StoredAsPlanned p = (d film : ℕ) → isStored (storedCopy (suc d) film) (storedCopies p) ≡ hasFilm p d film
 
 -- The copy that a transfer makes.
 abbrev pub copyMade : Transfer → StoredCopy
-copyMade t = stored (t .destination) (t .film)
+copyMade t = storedCopy (t .destination) (t .film)
 
 -- x stands before y: on a lower disk, or on the same disk with a lower film.
 abbrev pub StandsBefore : StoredCopy → StoredCopy → Type 0
 StandsBefore x y = (x .disk < y .disk) ⊎ ((x .disk ≡ y .disk) × (x .film < y .film))
 
 -- A copy stands before the first of a list, and each of the list before the next one.
-abbrev pub OrderedBehind : StoredCopy → List StoredCopy → Type 0
-OrderedBehind x [] = Unit {0}
-OrderedBehind x (y ∷ ys) = StandsBefore x y × OrderedBehind y ys
+abbrev pub InOrderBehind : StoredCopy → List StoredCopy → Type 0
+InOrderBehind x [] = Unit {0}
+InOrderBehind x (y ∷ ys) = StandsBefore x y × InOrderBehind y ys
 
 -- Each copy of a list stands before the next one.
-abbrev pub Ordered : List StoredCopy → Type 0
-Ordered [] = Unit {0}
-Ordered (x ∷ xs) = OrderedBehind x xs
+abbrev pub InOrder : List StoredCopy → Type 0
+InOrder [] = Unit {0}
+InOrder (x ∷ xs) = InOrderBehind x xs
 
 -- The film is on the disk of a number.
 abbrev pub Holds : List StoredCopy → (disk film : ℕ) → Type 0
-Holds old disk film = isStored (stored disk film) old ≡ true
+Holds old disk film = isStored (storedCopy disk film) old ≡ true
 
 -- The source is the loader, and no disk holds the film; or it is the lowest disk that does.
 pub record FromLoader (old : List StoredCopy) (t : Transfer) : Type 0 where
@@ -60,7 +60,7 @@ pub record InEarliest (placed : List Transfer) (t : Transfer) : Type 0 where
   pub free : bothFree placed (t .source) (t .destination) (t .round) ≡ true
   pub earliest : (round : ℕ) → 1 ≤ round → round < t .round → bothFree placed (t .source) (t .destination) round ≡ false
 
--- The transfers of a round in which a disk or the loader takes part, and all in which it does.
+-- In how many transfers of a round a disk or the loader takes part, and in how many at all.
 abbrev pub partsIn : (end round : ℕ) → List Transfer → ℕ
 partsIn end round ts = countBy (λ t. eqb round (t .round) && takesPart end t) ts
 

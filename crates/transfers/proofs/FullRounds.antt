@@ -2,7 +2,7 @@
 use mathlib.Core.Path.{_≡_, refl, sym, ap, subst, _∙_}
 use mathlib.Core.Bool.{Bool, true, false, cond}
 use mathlib.Core.List.{List}
-use mathlib.Core.Logic.{_⊎_, inl, inr}
+use mathlib.Core.Logic.{inl, inr}
 use Prim.Native.Nat.{ℕ, _+_, _-_, _*_, _≤_, _<_, max}
 use native.Mathlib.Omega.{arith}
 use borrow.Author.Tests.{eqb-true, eqb-false}
@@ -40,7 +40,7 @@ module _ (busy full : List ℕ) (n m : ℕ) (table : FullTable busy full n) (wid
   kept other few r less =
       one-kept busy place (other * rowLength + r) (omega (arith, wide, few, less, table .few other few)) (table .ones other few r less)
 
-  -- and of the one that is busy there is one more known where it is the next one.
+  -- and of the end made busy one round more is known, where it is the next one.
   known : (b : Bool) → eqb (mine + 1) round ≡ b → BusyTo (set busy place 1) end (cond b round mine)
   known false e = kept end own
   known true e = λ r less.

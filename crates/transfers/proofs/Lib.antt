@@ -4,6 +4,7 @@ pub mod Starting
 pub mod Inserting
 pub mod DiskKeys
 pub mod Overwriting
+pub mod FreeRounds
 pub mod Busy
 pub mod RackKeys
 pub mod WorkedOut

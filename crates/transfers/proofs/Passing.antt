@@ -1,9 +1,9 @@
 -- Two lists of keys that ascend, passed together: a key is stored where it stands at the place that was passed to.
-use mathlib.Core.Path.{_≡_, refl, sym, ap, ap₂, subst, _∙_}
+use mathlib.Core.Path.{_≡_, refl, sym, ap, subst, _∙_}
 use mathlib.Core.Bool.{Bool, true, false, cond, _||_}
 use mathlib.Core.List.{List, [], _∷_, _++_, map, append-nil}
 use mathlib.Core.Logic.{inl, inr}
-use Prim.Native.Nat.{ℕ, zero, suc, _+_, _/_, _%_, _≤_, _<_}
+use Prim.Native.Nat.{ℕ, zero, suc, _+_, _/_, _≤_, _<_}
 use native.Mathlib.Numerals.{add-one}
 use native.Mathlib.Omega.{arith}
 use lib.ListN.{length, take, drop, getD, set, length-map, drop-of-length-le}
@@ -11,13 +11,13 @@ use lib.Seq.{take-suc, take-set-le, take-suc-set}
 use Rattle.placement.specs.WellFormed.{Each}
 use Rattle.placement.proofs.Each.{each-append}
 use Rattle.placement.proofs.Tests.{by-order}
-use Rattle.transfer_schedule.specs.Stored.{StoredCopy, sameCopy, isStored}
+use Rattle.transfer_schedule.specs.Stored.{StoredCopy, isStored}
 use Rattle.transfer_schedule.specs.Schedule.{lacking}
-use Rattle.transfer_schedule.specs.Words.{StandsBefore, OrderedBehind, Ordered}
+use Rattle.transfer_schedule.specs.Words.{StandsBefore, InOrderBehind, InOrder}
 use Rattle.transfer_schedule.proofs.Mapped.{mapped-more, map-last}
 use Rattle.transfer_schedule.proofs.Lacking.{lacking-append}
 use Rattle.transfer_schedule.proofs.Ordered.{before-other, behind-absent}
-use Rattle.transfers.specs.Keys.{storedIn, storedAt, Passed}
+use Rattle.transfers.specs.Keys.{storedIn, storedAt, PassedTo}
 use Rattle.transfers.proofs.Looks.{copy-here, stored-found}
 
 -- Keys of copies in order ascend,
@@ -34,29 +34,29 @@ copy-before a b less =
     inr (same, omega arith))
 
 -- At a place of a list in order: the key there is below the next one,
-pub next-key : (keys : List ℕ) (i : ℕ) → Ordered (map storedIn keys) → i + 1 < length keys → getD keys i 0 < getD keys (i + 1) 0
+pub next-key : (keys : List ℕ) (i : ℕ) → InOrder (map storedIn keys) → i + 1 < length keys → getD keys i 0 < getD keys (i + 1) 0
 next-key keys i ordered more = rw add-one (go keys i ordered (omega arith))
   where
-    behind : (k : ℕ) (keys : List ℕ) (i : ℕ) → OrderedBehind (storedIn k) (map storedIn keys) → i < length keys → getD (k ∷ keys) i 0 < getD keys i 0
+    behind : (k : ℕ) (keys : List ℕ) (i : ℕ) → InOrderBehind (storedIn k) (map storedIn keys) → i < length keys → getD (k ∷ keys) i 0 < getD keys i 0
     behind k [] i ordered less = absurd (omega arith)
     behind k (x ∷ keys) zero ordered less = key-before k x (ordered .0)
     behind k (x ∷ keys) (suc i) ordered less = behind x keys i (ordered .1) (omega arith)
 
-    go : (keys : List ℕ) (i : ℕ) → Ordered (map storedIn keys) → suc i < length keys → getD keys i 0 < getD keys (suc i) 0
+    go : (keys : List ℕ) (i : ℕ) → InOrder (map storedIn keys) → suc i < length keys → getD keys i 0 < getD keys (suc i) 0
     go [] i ordered less = absurd (omega arith)
     go (k ∷ keys) i ordered less = behind k keys i ordered (omega arith)
 
 -- and the copies behind it are in order behind it.
-ordered-at : (keys : List ℕ) (i : ℕ) → Ordered (map storedIn keys) → i < length keys → OrderedBehind (storedIn (getD keys i 0)) (drop (i + 1) (map storedIn keys))
+ordered-at : (keys : List ℕ) (i : ℕ) → InOrder (map storedIn keys) → i < length keys → InOrderBehind (storedIn (getD keys i 0)) (drop (i + 1) (map storedIn keys))
 ordered-at keys i ordered less = rw add-one (at keys i ordered less)
   where
-    go : (k : ℕ) (keys : List ℕ) (i : ℕ) → OrderedBehind (storedIn k) (map storedIn keys) → i < suc (length keys)
-        → OrderedBehind (storedIn (getD (k ∷ keys) i 0)) (drop i (map storedIn keys))
+    go : (k : ℕ) (keys : List ℕ) (i : ℕ) → InOrderBehind (storedIn k) (map storedIn keys) → i < suc (length keys)
+        → InOrderBehind (storedIn (getD (k ∷ keys) i 0)) (drop i (map storedIn keys))
     go k keys zero ordered less = ordered
     go k [] (suc i) ordered less = absurd (omega arith)
     go k (x ∷ keys) (suc i) ordered less = go x keys i (ordered .1) (omega arith)
 
-    at : (keys : List ℕ) (i : ℕ) → Ordered (map storedIn keys) → i < length keys → OrderedBehind (storedIn (getD keys i 0)) (drop (suc i) (map storedIn keys))
+    at : (keys : List ℕ) (i : ℕ) → InOrder (map storedIn keys) → i < length keys → InOrderBehind (storedIn (getD keys i 0)) (drop (suc i) (map storedIn keys))
     at [] i ordered less = absurd (omega arith)
     at (k ∷ keys) i ordered less = go k keys i ordered (omega arith)
 
@@ -70,7 +70,7 @@ pass-below key (suc at) (k ∷ old) below =
     ap (λ (b : Bool). b || isStored (storedIn key) (map storedIn old)) (before-other (storedIn k) (storedIn key) (copy-before k key (below .0)) .1)
     ∙ pass-below key at old (below .1)
 
-module _ (old : List ℕ) (key at : ℕ) (passed : Passed old key at) where
+module _ (old : List ℕ) (key at : ℕ) (passed : PassedTo old key at) where
   from-place : isStored (storedIn key) (map storedIn old) ≡ isStored (storedIn key) (drop at (map storedIn old))
   from-place = pass-below key at old (passed .below)
 
@@ -79,7 +79,7 @@ module _ (old : List ℕ) (key at : ℕ) (passed : Passed old key at) where
   passed-found less found = from-place ∙ stored-found old at less key found
 
   -- a higher one does,
-  pub passed-other : Ordered (map storedIn old) → at < length old → (getD old at 0 ≡ key → ⊥) → isStored (storedIn key) (map storedIn old) ≡ false
+  pub passed-other : InOrder (map storedIn old) → at < length old → (getD old at 0 ≡ key → ⊥) → isStored (storedIn key) (map storedIn old) ≡ false
   passed-other ordered less other =
       from-place ∙ ap (isStored (storedIn key)) (copy-here old at less)
       ∙ behind-absent (storedIn key) (storedIn (getD old at 0) ∷ drop (at + 1) (map storedIn old))

@@ -17,10 +17,10 @@ use Rattle.plan_text.specs.ReadCall.{textVerdict}
 use Rattle.plan_text.proofs.Verdicts.{verdict-wellFormed}
 use Rattle.transfer_schedule.specs.Stored.{storedCopies}
 use Rattle.transfer_schedule.specs.Fits.{mostTransferDisks}
-use Rattle.transfer_schedule.specs.Transfers.{followedWith, fewDisks, sameLine, racksJudged, Plans, plans, textsVerdict}
+use Rattle.transfer_schedule.specs.Transfers.{followedWith, fewDisks, sameNumbers, racksJudged, plans}
 use Rattle.transfers.specs.Keys.{storedAt, StoredText, StoredNew, StoredTexts}
 
--- A refusal is no value.
+-- The verdict is a value, and the sizes that it has.
 abbrev pub IsGiven : Verdict (ℕ × ℕ) → Type 0
 IsGiven (given sizes) = Unit {0}
 IsGiven (refused number second) = ⊥
@@ -76,7 +76,7 @@ module _ (p q : Plan) (m n : ℕ) (oldkeys newkeys : List ℕ) (oldRoom : m ≤ 
     (news : length (q .rack) ≤ mostTransferDisks → storedAt n newkeys ≡ storedCopies q) where
   -- Two plans whose racks are judged: refused, or their copies stand in front.
   racks-stored : StoredTexts (racksJudged (p .rack) (q .rack) (given (plans p q))) oldkeys newkeys (racksJudged (p .rack) (q .rack) (given (m, n)))
-  racks-stored = go (fewDisks (p .rack) && fewDisks (q .rack)) refl (sameLine (firstLine (p .rack)) (firstLine (q .rack)))
+  racks-stored = go (fewDisks (p .rack) && fewDisks (q .rack)) refl (sameNumbers (firstLine (p .rack)) (firstLine (q .rack)))
     where
       go : (short : Bool) → (fewDisks (p .rack) && fewDisks (q .rack)) ≡ short → (same : Bool)
           → StoredTexts (unless short 14 0 (unless same 15 0 (given (plans p q)))) oldkeys newkeys (unless short 14 0 (unless same 15 0 (given (m, n))))

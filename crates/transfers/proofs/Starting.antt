@@ -1,6 +1,5 @@
--- Where the search of a film starts: noted for one copy more, from the last to the first, and what the copies before it say.
+-- Where the search for a film starts: copies are noted from the last to the first, and none before the start has the film.
 use mathlib.Core.Path.{_≡_, refl, sym, ap, subst, _∙_}
-use mathlib.Core.Bool.{cond}
 use mathlib.Core.List.{List, [], _∷_}
 use Prim.Native.Nat.{ℕ, zero, suc, _+_, _-_, _%_, _≤_}
 use native.Mathlib.Omega.{arith}

@@ -1,13 +1,13 @@
--- The keys of stored copies: as many as slots at most, and read back as the copies.
+-- A rack of at most 8 disks has at most 256 slots, and keys are read back as their copies.
 use mathlib.Core.Path.{_≡_, refl, sym, ap, ap₂, _∙_}
-use mathlib.Core.Bool.{Bool, true, _&&_}
-use mathlib.Core.List.{List, [], _∷_, _++_, map}
+use mathlib.Core.Bool.{true}
+use mathlib.Core.List.{List, [], _∷_, map}
 use Prim.Native.Nat.{ℕ, suc, _+_, _*_, _/_, _%_, _≤_, _<_}
 use native.Mathlib.Omega.{arith}
-use lib.ListN.{length, take, drop, length-map}
+use lib.ListN.{length, drop, length-map}
 use lib.Seq.{take-at}
 use Rattle.placement.specs.Items.{Item}
-use Rattle.placement.specs.Copies.{Copy, copyOf}
+use Rattle.placement.specs.Copies.{copyOf}
 use Rattle.placement.specs.Rack.{Disk, allSlots, allInRange, diskInRange, disksInRange, inRange, mostDisks, mostSlots, mostLoad, rackAccepted}
 use Rattle.placement.specs.Tables.{written}
 use Rattle.placement.specs.Held.{copiesFrom, markedFrom}
@@ -15,8 +15,8 @@ use Rattle.placement.specs.WellFormed.{Each}
 use Rattle.placement.proofs.Conjunctions.{both-true}
 use Rattle.placement.proofs.Each.{each-append}
 use Rattle.placement.proofs.Tests.{inRange-bounds}
-use Rattle.transfer_schedule.specs.Stored.{StoredCopy, stored, ascending, filmsOf, storedFrom}
-use Rattle.transfers.specs.Keys.{keyOf, storedIn, storedAt}
+use Rattle.transfer_schedule.specs.Stored.{StoredCopy, storedCopy, ascending, filmsOf, storedFrom}
+use Rattle.transfers.specs.Keys.{copyKey, storedIn, storedAt}
 use Rattle.transfer_schedule.proofs.Inserted.{ascending-each}
 
 -- Disks in range have at most 32 slots each.
@@ -33,7 +33,7 @@ slots-few rack e few =
     let ranges = both-true (disksInRange rack) _ e .0 in
     omega (arith, slots-most rack (both-true (inRange mostDisks (length rack)) (allInRange rack) ranges .1), few)
 
--- A film that a key has room for.
+-- A film number of 16 bits.
 abbrev Small : ℕ → Type 0
 Small film = film < 65536
 
@@ -41,20 +41,20 @@ films-small : (xs : List Item) → Each Small (filmsOf (map copyOf xs))
 films-small [] = tt
 films-small (x ∷ xs) = (omega arith, films-small xs)
 
-disk-small : (number : ℕ) (films : List ℕ) → Each Small films → Each (λ (c : StoredCopy). c .film < 65536) (map (stored number) films)
+disk-small : (number : ℕ) (films : List ℕ) → Each Small films → Each (λ (c : StoredCopy). c .film < 65536) (map (storedCopy number) films)
 disk-small number [] all = tt
 disk-small number (f ∷ fs) all = (all .0, disk-small number fs (all .1))
 
 copies-small : (number : ℕ) (layout : List (List Item)) → Each (λ (c : StoredCopy). c .film < 65536) (storedFrom number (map (map copyOf) layout))
 copies-small number [] = tt
 copies-small number (xs ∷ rest) =
-    each-append (λ (c : StoredCopy). c .film < 65536) (map (stored number) (ascending (filmsOf (map copyOf xs)))) (storedFrom (suc number) (map (map copyOf) rest))
+    each-append (λ (c : StoredCopy). c .film < 65536) (map (storedCopy number) (ascending (filmsOf (map copyOf xs)))) (storedFrom (suc number) (map (map copyOf) rest))
     (disk-small number (ascending (filmsOf (map copyOf xs))) (ascending-each Small (filmsOf (map copyOf xs)) (films-small xs)))
     (copies-small (suc number) rest)
 
 -- A key is read back as its copy.
-key-read : (c : StoredCopy) → c .film < 65536 → storedIn (keyOf c) ≡ c
-key-read c small = ap₂ stored disk film
+key-read : (c : StoredCopy) → c .film < 65536 → storedIn (copyKey c) ≡ c
+key-read c small = ap₂ storedCopy disk film
   where
     disk : (c .disk * 16777216 + c .film) / 16777216 ≡ c .disk
     disk = omega (arith, small)
@@ -62,16 +62,16 @@ key-read c small = ap₂ stored disk film
     film : (c .disk * 16777216 + c .film) % 16777216 ≡ c .film
     film = omega (arith, small)
 
-all-read : (cs : List StoredCopy) → Each (λ (c : StoredCopy). c .film < 65536) cs → map storedIn (map keyOf cs) ≡ cs
+all-read : (cs : List StoredCopy) → Each (λ (c : StoredCopy). c .film < 65536) cs → map storedIn (map copyKey cs) ≡ cs
 all-read [] all = refl
 all-read (c ∷ cs) all = ap₂ (λ (x : StoredCopy) (xs : List StoredCopy). x ∷ xs) (key-read c (all .0)) (all-read cs (all .1))
 
 -- The keys of a plan's tables, put in front, are read back as its stored copies.
 pub keys-read :
-    (rack : List Disk) (copies counts keys keys′ : List ℕ) (n : ℕ) → keys′ ≡ written (map keyOf (storedFrom 1 (markedFrom rack copies counts))) keys
+    (rack : List Disk) (copies counts keys keys′ : List ℕ) (n : ℕ) → keys′ ≡ written (map copyKey (storedFrom 1 (markedFrom rack copies counts))) keys
     → n ≡ length (storedFrom 1 (markedFrom rack copies counts)) → storedAt n keys′ ≡ storedFrom 1 (markedFrom rack copies counts)
 keys-read rack copies counts keys keys′ n e number =
     let cs = storedFrom 1 (markedFrom rack copies counts) in
     ap (storedAt n) e
-    ∙ ap (map storedIn) (take-at (map keyOf cs) (drop (length (map keyOf cs)) keys) n (length-map cs keyOf ∙ sym number))
+    ∙ ap (map storedIn) (take-at (map copyKey cs) (drop (length (map copyKey cs)) keys) n (length-map cs copyKey ∙ sym number))
     ∙ all-read cs (copies-small 1 (copiesFrom rack copies counts))

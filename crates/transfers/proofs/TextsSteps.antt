@@ -7,10 +7,10 @@ use Rattle.refusal.specs.Verdict.{Verdict, given, refused, Numbers}
 use Rattle.placement.specs.WellFormed.{Each}
 use Rattle.transfer_schedule.specs.Stored.{StoredCopy, storedCopies}
 use Rattle.transfer_schedule.specs.Schedule.{schedule}
-use Rattle.transfer_schedule.specs.Words.{Ordered}
-use Rattle.transfer_schedule.specs.Transfers.{Plans, textsVerdict, Sums, sums}
+use Rattle.transfer_schedule.specs.Words.{InOrder}
+use Rattle.transfer_schedule.specs.Transfers.{Plans, textsVerdict, ScheduleSize, scheduleSize}
 use Rattle.transfer_schedule.specs.Fits.{CopyFits}
-use Rattle.transfers.specs.Keys.{storedAt, Outcome, WorkedOut, StoredTexts}
+use Rattle.transfers.specs.Keys.{storedAt, TransfersMade, WorkedOut, StoredTexts}
 use Rattle.transfer_schedule.proofs.BothTexts.{BothRead, texts-given}
 use Rattle.transfers.proofs.ReadSteps.{IsGiven, sizesOr}
 use Rattle.transfer_schedule.proofs.ReadPlans.{old-formed, new-formed}
@@ -44,22 +44,22 @@ both-as (given both) oldkeys newkeys m n (a, b, e, oldRoom, newRoom, olds, news)
 -- A refusal is the texts' own.
 pub both-refused :
     (v : Verdict Plans) (oldkeys newkeys entries : List ℕ) (number second : ℕ) → StoredTexts v oldkeys newkeys (refused number second)
-    → WorkedOut v entries (record { refusal = number; second = second; values = sums 0 0 })
+    → WorkedOut v entries (record { refusal = number; second = second; values = scheduleSize 0 0 })
 both-refused (refused a b) oldkeys newkeys entries number second e = ap numbersIn e
   where
-    numbersIn : Verdict (ℕ × ℕ) → Numbers Sums
-    numbersIn (given sizes) = record { refusal = 0; second = 0; values = sums 0 0 }
-    numbersIn (refused x y) = record { refusal = x; second = y; values = sums 0 0 }
+    numbersIn : Verdict (ℕ × ℕ) → Numbers ScheduleSize
+    numbersIn (given sizes) = record { refusal = 0; second = 0; values = scheduleSize 0 0 }
+    numbersIn (refused x y) = record { refusal = x; second = y; values = scheduleSize 0 0 }
 both-refused (given both) oldkeys newkeys entries number second (a, b, e, oldRoom, newRoom, olds, news) = absurd (subst IsGiven (sym e) tt)
 
 -- The transfers between the copies that were read are those of the texts.
 pub both-worked :
-    (v : Verdict Plans) (oldkeys newkeys entries : List ℕ) (m n : ℕ) (answer : Numbers Sums) (r : BothAs v oldkeys newkeys m n)
-    → Outcome (schedule (storedAt m oldkeys) (storedAt n newkeys)) entries answer → WorkedOut v entries answer
+    (v : Verdict Plans) (oldkeys newkeys entries : List ℕ) (m n : ℕ) (answer : Numbers ScheduleSize) (r : BothAs v oldkeys newkeys m n)
+    → TransfersMade (schedule (storedAt m oldkeys) (storedAt n newkeys)) entries answer → WorkedOut v entries answer
 both-worked v oldkeys newkeys entries m n answer r o =
     subst (λ (w : Verdict Plans). WorkedOut w entries answer) (sym (r .same))
-    (subst (λ (cs : List StoredCopy). Outcome (schedule (storedCopies (r .both .old)) cs) entries answer) (r .news)
-    (subst (λ (cs : List StoredCopy). Outcome (schedule cs (storedAt n newkeys)) entries answer) (r .olds) o))
+    (subst (λ (cs : List StoredCopy). TransfersMade (schedule (storedCopies (r .both .old)) cs) entries answer) (r .news)
+    (subst (λ (cs : List StoredCopy). TransfersMade (schedule cs (storedAt n newkeys)) entries answer) (r .olds) o))
 
 module _ (old new oldkeys newkeys : List ℕ) (m n : ℕ) (r : BothAs (textsVerdict old new) oldkeys newkeys m n) where
   read : BothRead old new (r .both)
@@ -73,8 +73,8 @@ module _ (old new oldkeys newkeys : List ℕ) (m n : ℕ) (r : BothAs (textsVerd
   news-fit = subst (Each CopyFits) (sym (r .news)) (stored-fits (r .both .new) (new-formed old new (r .both) read) (read .secondFew))
 
   -- and stand in order.
-  pub olds-ordered : Ordered (storedAt m oldkeys)
-  olds-ordered = subst Ordered (sym (r .olds)) (stored-ordered (r .both .old) (old-formed old new (r .both) read))
+  pub olds-ordered : InOrder (storedAt m oldkeys)
+  olds-ordered = subst InOrder (sym (r .olds)) (stored-ordered (r .both .old) (old-formed old new (r .both) read))
 
-  pub news-ordered : Ordered (storedAt n newkeys)
-  news-ordered = subst Ordered (sym (r .news)) (stored-ordered (r .both .new) (new-formed old new (r .both) read))
+  pub news-ordered : InOrder (storedAt n newkeys)
+  news-ordered = subst InOrder (sym (r .news)) (stored-ordered (r .both .new) (new-formed old new (r .both) read))

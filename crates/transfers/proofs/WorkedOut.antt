@@ -10,16 +10,16 @@ use Rattle.placement.specs.Tables.{written}
 use Rattle.placement.specs.WellFormed.{Each}
 use Rattle.transfer_schedule.specs.Schedule.{Transfer}
 use Rattle.transfer_schedule.specs.Counts.{ends, countTable}
-use Rattle.transfer_schedule.specs.Transfers.{Plans, textsVerdict, transfersOf, transfersVerdict, transferEntry, transferIn, Sums, sums, answerTo, listGiven, tableGiven, transferring, entriesAfter, tableAfter}
+use Rattle.transfer_schedule.specs.Transfers.{Plans, textsVerdict, transfersOf, transfersVerdict, transferEntry, transferIn, ScheduleSize, scheduleSize, transfersAnswer, listGiven, tableGiven, transferring, entriesAfter, tableAfter}
 use Rattle.transfer_schedule.specs.Fits.{TransferFits}
-use Rattle.transfers.specs.Keys.{Outcome, WorkedOut}
+use Rattle.transfers.specs.Keys.{TransfersMade, WorkedOut}
 use Rattle.transfer_schedule.proofs.Entries.{transfers-entries}
 use Rattle.transfer_schedule.proofs.BothTexts.{texts-late}
 use Rattle.transfer_schedule.proofs.Judged.{judged-refused, judged-short, judged-given, answer-by, list-by, table-by}
 
 -- The answer, the list and the table are the definition's.
 abbrev pub Keeps :
-    (old new list : List ℕ) → (table : List (List ℕ)) → Numbers Sums → (listExit : List ℕ) → (tableExit : List (List ℕ)) → Type 0
+    (old new list : List ℕ) → (table : List (List ℕ)) → Numbers ScheduleSize → (listExit : List ℕ) → (tableExit : List (List ℕ)) → Type 0
 Keeps old new list table answer listExit tableExit =
     (answer ≡ transferring old new (length list) (length table))
     × (listExit ≡ entriesAfter old new list (length table))
@@ -28,17 +28,17 @@ Keeps old new list table answer listExit tableExit =
 -- They are by the verdict.
 keeps-by :
     (old new list : List ℕ) (table : List (List ℕ)) (v : Verdict (List Transfer)) → transfersVerdict old new (length list) (length table) ≡ v
-    → Keeps old new list table (answerTo v) (listGiven list v) (tableGiven table v)
+    → Keeps old new list table (transfersAnswer v) (listGiven list v) (tableGiven table v)
 keeps-by old new list table v e =
     (answer-by old new (length list) (length table) v e, list-by old new list (length table) v e, table-by old new (length list) table v e)
 
 -- Transfers whose entries stand in front.
-module _ (ts : List Transfer) (entries : List ℕ) (answer : Numbers Sums) (o : Outcome ts entries answer) where
+module _ (ts : List Transfer) (entries : List ℕ) (answer : Numbers ScheduleSize) (o : TransfersMade ts entries answer) where
   no-refusal : answer .refusal ≡ 0
-  no-refusal = ap (λ (a : Numbers Sums). a .refusal) (o .told)
+  no-refusal = ap (λ (a : Numbers ScheduleSize). a .refusal) (o .told)
 
   number-told : answer .values .transfers ≡ length ts
-  number-told = ap (λ (a : Numbers Sums). a .values .transfers) (o .told)
+  number-told = ap (λ (a : Numbers ScheduleSize). a .values .transfers) (o .told)
 
   entries-told : take (answer .values .transfers) entries ≡ map transferEntry ts
   entries-told = ap (λ (n : ℕ). take n entries) number-told ∙ o .front
@@ -46,7 +46,7 @@ module _ (ts : List Transfer) (entries : List ℕ) (answer : Numbers Sums) (o : 
   transfers-told : map transferIn (take (answer .values .transfers) entries) ≡ ts
   transfers-told = ap (map transferIn) entries-told ∙ transfers-entries ts (o .fit)
 
-module _ (old new entries : List ℕ) (answer : Numbers Sums) (w : WorkedOut (textsVerdict old new) entries answer) where
+module _ (old new entries : List ℕ) (answer : Numbers ScheduleSize) (w : WorkedOut (textsVerdict old new) entries answer) where
   -- Where the texts are refused, the list and the table stay.
   pub worked-refused : (list : List ℕ) (table : List (List ℕ)) → 1 ≤ answer .refusal → Keeps old new list table answer list table
   worked-refused list table some = go (textsVerdict old new) refl w
@@ -60,19 +60,19 @@ module _ (old new entries : List ℕ) (answer : Numbers Sums) (w : WorkedOut (te
   -- Where they are not, there are two plans with transfers.
   by-plans :
       {P : Type 0} → answer .refusal ≡ 0
-      → ((both : Plans) → textsVerdict old new ≡ given both → Outcome (transfersOf both) entries answer → P) → P
+      → ((both : Plans) → textsVerdict old new ≡ given both → TransfersMade (transfersOf both) entries answer → P) → P
   by-plans {P} none follows = go (textsVerdict old new) refl w
     where
       go : (v : Verdict Plans) → textsVerdict old new ≡ v → WorkedOut v entries answer → P
       go (given both) e o = follows both e o
       go (refused n s) e is =
-          let number : answer .refusal ≡ n = ap (λ (a : Numbers Sums). a .refusal) is in
+          let number : answer .refusal ≡ n = ap (λ (a : Numbers ScheduleSize). a .refusal) is in
           absurd (omega (arith, none, number, texts-late old new n s e))
 
   -- Too few places or rows are refused 7,
   pub worked-short :
       (list : List ℕ) (table : List (List ℕ)) → answer .refusal ≡ 0 → (length list < answer .values .transfers) ⊎ (length table < ends)
-      → Keeps old new list table (record { refusal = 7; second = 0; values = sums 0 0 }) list table
+      → Keeps old new list table (record { refusal = 7; second = 0; values = scheduleSize 0 0 }) list table
   worked-short list table none short =
       by-plans none (λ both e o. keeps-by old new list table (refused 7 0)
       (judged-short old new (length list) (length table) both e

@@ -13,18 +13,18 @@ use Rattle.placement.specs.Plan.{Plan}
 use Rattle.placement.specs.WellFormed.{Each}
 use Rattle.plan_text.specs.Held.{unusedZeroFrom}
 use Rattle.writer.specs.Call.{CopyRoom}
-use Rattle.transfer_schedule.specs.Stored.{StoredCopy, stored, storedCopies}
+use Rattle.transfer_schedule.specs.Stored.{StoredCopy, storedCopy, storedCopies}
 use Rattle.transfer_schedule.specs.Schedule.{Transfer, transfer, busyIn, earliestFrom, earliest, transferFor, placedWith}
 use Rattle.transfer_schedule.specs.Counts.{ends}
 use Rattle.transfer_schedule.specs.Fits.{mostTransferDisks, mostTransfers, TransferFits}
-use Rattle.transfer_schedule.specs.Transfers.{racksJudged, Plans, transfersOf, transferEntry, Sums, sums, sumsOf}
+use Rattle.transfer_schedule.specs.Transfers.{racksJudged, Plans, transfersOf, transferEntry, ScheduleSize, scheduleSize, sizeOf}
 
--- A stored copy as one number, which ascends by disk, then film: the film has the lowest 24 bits.
-abbrev pub keyOf : StoredCopy → ℕ
-keyOf c = c .disk * 16777216 + c .film
+-- The key of a stored copy, a number that ascends by disk, then film: the film has the lowest 24 bits. And the copy of a key.
+abbrev pub copyKey : StoredCopy → ℕ
+copyKey c = c .disk * 16777216 + c .film
 
 abbrev pub storedIn : ℕ → StoredCopy
-storedIn key = stored (key / 16777216) (key % 16777216)
+storedIn key = storedCopy (key / 16777216) (key % 16777216)
 
 -- The stored copies of the first n keys.
 abbrev pub storedAt : ℕ → List ℕ → List StoredCopy
@@ -40,7 +40,7 @@ abbrev pub rowLength : ℕ
 rowLength = mostTransfers
 
 abbrev pub busyPlaces : ℕ
-busyPlaces = 2304
+busyPlaces = ends * rowLength
 
 abbrev pub flag : Bool → ℕ
 flag b = cond b 1 0
@@ -54,13 +54,13 @@ pub record BusyTable (busy : List ℕ) (placed : List Transfer) : Type 0 where
 abbrev pub BusyTo : (busy : List ℕ) → (end n : ℕ) → Type 0
 BusyTo busy end n = (r : ℕ) → r < n → getD busy (end * rowLength + r) 0 ≡ 1
 
--- Rounds that are known to be busy at an end: so many from the first on, at most n, as the table says.
+-- For each end a number of rounds, at most n: the end is busy in so many from the first on.
 pub record FullTable (busy full : List ℕ) (n : ℕ) : Type 0 where
   pub wide : length full ≡ ends
   pub few : (end : ℕ) → end < ends → getD full end 0 ≤ n
   pub ones : (end : ℕ) → end < ends → BusyTo busy end (getD full end 0)
 
--- With one more that is busy there is one more known where it is the next one.
+-- That number once a round is busy: the round itself where it is the next one.
 abbrev pub nextFull : (full round : ℕ) → ℕ
 nextFull full round = cond (eqb (full + 1) round) round full
 
@@ -91,16 +91,17 @@ PlacedNext old c n busy busy′ entry =
 abbrev pub NoneOf : (film : ℕ) → List StoredCopy → Type 0
 NoneOf film cs = Each (λ (c : StoredCopy). c .film ≡ film → ⊥) cs
 
--- Where the search of a film starts, by its remainder: no copy before that place has the film.
+-- How many remainders of films there are.
 abbrev pub startPlaces : ℕ
 startPlaces = 4096
 
+-- Where the search for a film starts, by its remainder: no copy before that place has the film.
 pub record SearchStarts (starts : List ℕ) (cs : List StoredCopy) : Type 0 where
   pub wide : length starts ≡ startPlaces
   pub none : (film : ℕ) → NoneOf film (take (getD starts (film % startPlaces) 0) cs)
 
 -- The keys before a place are below a key, and the one there is not.
-pub record Passed (keys : List ℕ) (key at : ℕ) : Type 0 where
+pub record PassedTo (keys : List ℕ) (key at : ℕ) : Type 0 where
   pub within : at ≤ length keys
   pub below : Each (λ k. k < key) (take at keys)
   pub next : at < length keys → key ≤ getD keys at 0
@@ -131,13 +132,13 @@ StoredTexts (given both) oldkeys newkeys v =
     × (storedAt m oldkeys ≡ storedCopies (both .old)) × (storedAt n newkeys ≡ storedCopies (both .new))
 
 -- The answer for some transfers, whose entries stand in front.
-pub record Outcome (ts : List Transfer) (entries : List ℕ) (answer : Numbers Sums) : Type 0 where
-  pub told : answer ≡ record { refusal = 0; second = 0; values = sumsOf ts }
+pub record TransfersMade (ts : List Transfer) (entries : List ℕ) (answer : Numbers ScheduleSize) : Type 0 where
+  pub told : answer ≡ record { refusal = 0; second = 0; values = sizeOf ts }
   pub front : take (length ts) entries ≡ map transferEntry ts
   pub fit : Each TransferFits ts
   pub room : length ts ≤ length entries
 
 -- Two texts that are refused, or whose transfers stand in front of the entries.
-abbrev pub WorkedOut : Verdict Plans → (entries : List ℕ) → Numbers Sums → Type 0
-WorkedOut (refused number second) entries answer = answer ≡ record { refusal = number; second = second; values = sums 0 0 }
-WorkedOut (given both) entries answer = Outcome (transfersOf both) entries answer
+abbrev pub WorkedOut : Verdict Plans → (entries : List ℕ) → Numbers ScheduleSize → Type 0
+WorkedOut (refused number second) entries answer = answer ≡ record { refusal = number; second = second; values = scheduleSize 0 0 }
+WorkedOut (given both) entries answer = TransfersMade (transfersOf both) entries answer

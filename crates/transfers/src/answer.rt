@@ -7,8 +7,14 @@ pub enum TransfersAnswer {
     Refused(Refusal),
 }
 
-// Two sizes of what was read: of one text the disks and the stored copies, of two texts the stored copies of each; or the refusal.
+// How many disks and how many stored copies the plan of a text has, or the text's refusal.
 pub enum TextRead {
-    Stored { first: usize, second: usize },
+    Stored { disks: usize, copies: usize },
     Declined(Refusal),
+}
+
+// How many stored copies the old plan has and how many the new one, or the refusal of both texts.
+pub enum TextsRead {
+    BothStored { old: usize, new: usize },
+    NoneStored(Refusal),
 }

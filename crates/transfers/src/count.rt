@@ -1,14 +1,14 @@
 // The table of counts, nine rows by source and nine columns by destination, passed along by value.
 ghost use mathlib.Core.Path.{_≡_};
 ghost use mathlib.Core.List.{[], map, _++_};
-ghost use Prim.Native.Nat.{_+_, _≤_, _<_};
-ghost use lib.ListN.{length, drop, getD, set};
+ghost use Prim.Native.Nat.{_≤_};
+ghost use lib.ListN.{length, drop};
 ghost use Rattle.placement.specs.WellFormed.{Each};
-ghost use Rattle.transfer_schedule.specs.Counts.{ends, countTable, countAt};
+ghost use Rattle.transfer_schedule.specs.Counts.{ends, countTable};
 ghost use Rattle.transfer_schedule.specs.Transfers.{transferIn};
 ghost use Rattle.transfer_schedule.specs.Fits.{TransferFits, mostTransfers};
 
-// A table without counts, with those of some transfers: those before `i` are counted. It comes and goes by value.
+// Counts the transfers of some entries in a table of zeros, which comes and goes by value: those before `i` are counted.
 pub(crate) fn count_transfers(table: [[u32; 9]; 9], entries: &[u64]) -> [[u32; 9]; 9]
     requires { ⌜ (table ≡ countTable []) × Each TransferFits (map transferIn (now entries)) × (length (now entries) ≤ mostTransfers) ⌝ }
     ensures { λ r. ⌜ r ≡ countTable (map transferIn (now (entries .entry))) ⌝ }

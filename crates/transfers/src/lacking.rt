@@ -7,13 +7,13 @@ ghost use lib.ListN.{length, take};
 ghost use Rattle.placement.specs.WellFormed.{Each};
 ghost use Rattle.transfer_schedule.specs.Stored.{isStored};
 ghost use Rattle.transfer_schedule.specs.Schedule.{lacking};
-ghost use Rattle.transfer_schedule.specs.Words.{Ordered};
-ghost use Rattle.transfers.specs.Keys.{storedIn, storedAt, Passed};
+ghost use Rattle.transfer_schedule.specs.Words.{InOrder};
+ghost use Rattle.transfers.specs.Keys.{storedIn, storedAt, PassedTo};
 
-// The first place from `at` on whose key is not below one: those before `i` are.
+// The first place from `at` on whose key is not below `key`, or the end: the keys before `i` are below it.
 fn pass_lower(old: &[u64], at: usize, key: u64) -> usize
     requires { ⌜ (at ≤ length (now old)) × Each (λ k. k < key) (take at (now old)) ⌝ }
-    ensures { λ r. ⌜ Passed (now (old .entry)) key r ⌝ }
+    ensures { λ r. ⌜ PassedTo (now (old .entry)) key r ⌝ }
 {
     let mut i = at;
     while i < old.len() {
@@ -25,9 +25,9 @@ fn pass_lower(old: &[u64], at: usize, key: u64) -> usize
     i
 }
 
-// 0 where a key stands at the place that was passed to, and else 1: then the old plan lacks its copy.
+// 0 where the key stands at the place that was passed to, else 1: then the old plan lacks its copy.
 fn lacks_at(old: &[u64], at: usize, key: u64) -> usize
-    requires { ⌜ Ordered (map storedIn (now old)) × Passed (now old) key at ⌝ }
+    requires { ⌜ InOrder (map storedIn (now old)) × PassedTo (now old) key at ⌝ }
     ensures { λ r. ⌜ r ≡ cond (isStored (storedIn key) (map storedIn (now (old .entry)))) 0 1 ⌝ }
 {
     if at < old.len() {
@@ -38,9 +38,10 @@ fn lacks_at(old: &[u64], at: usize, key: u64) -> usize
     1
 }
 
-// Puts the keys of the new copies that the old plan lacks in front, and answers how many there are: those before `i` are looked up.
+// Puts the keys of the new copies that the old plan lacks in front, and answers how many there are. Those before `i` are looked up, and the old
+// keys before `at` are below the next one. Each key is written behind those in front, and counts where it is lacking.
 pub(crate) fn put_lacking(old: &[u64], new: &[u64], keys: &mut [u64]) -> usize
-    requires { ⌜ Ordered (map storedIn (now old)) × Ordered (map storedIn (now new)) × (length (now new) ≤ length (now keys)) ⌝ }
+    requires { ⌜ InOrder (map storedIn (now old)) × InOrder (map storedIn (now new)) × (length (now new) ≤ length (now keys)) ⌝ }
     ensures { λ r. ⌜ storedAt r (now (keys .exit)) ≡ lacking (map storedIn (now (old .entry))) (map storedIn (now (new .entry))) ⌝ }
     ensures { λ r. ⌜ r ≤ length (now (new .entry)) ⌝ }
 {

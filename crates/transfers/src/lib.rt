@@ -8,7 +8,7 @@ mod sources; // sources.rt: where a film is copied from
 mod stored; // stored.rt: stored copies as numbers
 mod texts; // texts.rt: the two texts
 
-use answer::TextRead;
+use answer::TextsRead;
 pub use answer::TransfersAnswer;
 use count::count_transfers;
 use count::put_rows;
@@ -16,9 +16,8 @@ use refusal::Refusal;
 use schedule::transfers_between;
 use texts::read_texts;
 ghost use mathlib.Core.Path.{_≡_};
-ghost use mathlib.Core.List.{List, [], _++_};
 ghost use Prim.Native.Nat.{_≤_};
-ghost use lib.ListN.{length, drop};
+ghost use lib.ListN.{length};
 ghost use Rattle.placement.specs.Tables.{written};
 ghost use Rattle.transfer_schedule.specs.Counts.{ends};
 ghost use Rattle.transfer_schedule.specs.Transfers.{textsVerdict};
@@ -40,10 +39,10 @@ fn work_out_with(
 {
     let read = read_texts(old, new, oldkeys, newkeys);
     match read {
-        TextRead::Declined(refusal) => TransfersAnswer::Refused(refusal),
-        TextRead::Stored { first, second } => transfers_between(
-            &oldkeys[..first],
-            &newkeys[..second],
+        TextsRead::NoneStored(refusal) => TransfersAnswer::Refused(refusal),
+        TextsRead::BothStored { old, new } => transfers_between(
+            &oldkeys[..old],
+            &newkeys[..new],
             entries,
         ),
     }
@@ -72,7 +71,7 @@ fn put_entries(entries: &[u64], list: &mut [u64])
 }
 
 // The transfers of two texts and their counts, with space for the entries.
-fn transfers_through(
+fn transfers_counted_with(
     old: &[u8],
     new: &[u8],
     list: &mut [u64],
@@ -116,7 +115,7 @@ pub fn transfers_counted(
         (now (counts .entry)) (now (counts .exit)) (transferNumbers r) ⌝ }
 {
     let mut entries = [0u64; 256];
-    transfers_through(old, new, list, counts, &mut entries)
+    transfers_counted_with(old, new, list, counts, &mut entries)
 }
 
 // Gives the transfers from an old plan's text to a new one's: the lent list gets an entry for each. A refusal changes nothing.

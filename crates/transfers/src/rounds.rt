@@ -1,12 +1,24 @@
-// Rounds: a table of a row for each end, which says in which rounds it is busy.
-use crate::stored::larger;
+// Rounds: a table says in which rounds each end is busy, and another how many from the first on are known to be.
 ghost use mathlib.Core.Path.{_≡_};
-ghost use Prim.Native.Nat.{_+_, _-_, _*_, _≤_, _<_};
+ghost use Prim.Native.Nat.{max, _+_, _-_, _*_, _≤_, _<_};
 ghost use mathlib.Core.Bool.{_&&_};
 ghost use lib.Dec.{eqb};
 ghost use lib.ListN.{length, getD, set};
 ghost use Rattle.transfer_schedule.specs.Counts.{ends};
 ghost use Rattle.transfers.specs.Keys.{rowLength, busyPlaces, FullTable, nextFull, NoneFree, EarliestFor, RoundTaken};
+
+// The places of a row, one for each round.
+const ROW: usize = 256;
+
+// The larger of two numbers.
+pub(crate) fn larger(a: u64, b: u64) -> u64
+    ensures { λ r. ⌜ r ≡ max a b ⌝ }
+{
+    if a < b {
+        return b;
+    }
+    a
+}
 
 // Whether two places of the table say that their ends are free.
 fn both_free(source: u8, destination: u8) -> bool
@@ -18,8 +30,8 @@ fn both_free(source: u8, destination: u8) -> bool
     destination == 0
 }
 
-// The earliest of the first n rounds in which both ends are free, or the one behind them: those before `r` are passed. None of the first
-// `from` rounds is free.
+// The earliest of the first n rounds in which both ends are free, or the one behind them: the first `r` rounds are passed. None of the first
+// `from` is free.
 fn earliest(busy: &[u8], source: usize, destination: usize, from: usize, n: usize) -> usize
     requires { ⌜ length (now busy) ≡ busyPlaces ⌝ }
     requires { ⌜ (source < ends) × (destination < ends) × (n ≤ rowLength) × (from ≤ n) × NoneFree (now busy) source destination from ⌝ }
@@ -28,7 +40,7 @@ fn earliest(busy: &[u8], source: usize, destination: usize, from: usize, n: usiz
 {
     let mut r = from;
     while r < n {
-        if both_free(busy[source * 256 + r], busy[destination * 256 + r]) {
+        if both_free(busy[source * ROW + r], busy[destination * ROW + r]) {
             return r + 1;
         }
         r += 1;
@@ -36,7 +48,7 @@ fn earliest(busy: &[u8], source: usize, destination: usize, from: usize, n: usiz
     n + 1
 }
 
-// How many rounds from the first on are known to be busy, with one more that is.
+// How many rounds from the first on are known to be busy once this one is: one more where it is the next one.
 fn next_full(full: u64, round: u64) -> u64
     requires { ⌜ 1 ≤ round ⌝ }
     ensures { λ r. ⌜ r ≡ nextFull full round ⌝ }
@@ -47,14 +59,14 @@ fn next_full(full: u64, round: u64) -> u64
     full
 }
 
-// Makes an end busy in a round.
+// Makes an end busy in a round, which is known to be where it is the next one.
 fn make_busy(busy: &mut [u8], full: &mut [u64], end: usize, round: usize)
     requires { ⌜ (length (now busy) ≡ busyPlaces) × (length (now full) ≡ ends) ⌝ }
     requires { ⌜ (end < ends) × (1 ≤ round) × (round ≤ rowLength) ⌝ }
     ensures { λ _. ⌜ now (busy .exit) ≡ set (now (busy .entry)) («end» * rowLength + («round» - 1)) 1 ⌝ }
     ensures { λ _. ⌜ now (full .exit) ≡ set (now (full .entry)) «end» (nextFull (getD (now (full .entry)) «end» 0) «round») ⌝ }
 {
-    busy[end * 256 + (round - 1)] = 1;
+    busy[end * ROW + (round - 1)] = 1;
     full[end] = next_full(full[end], round as u64);
 }
 

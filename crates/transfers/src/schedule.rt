@@ -1,10 +1,11 @@
 // The schedule: each copy that the old plan lacks gets its transfer, one after the other.
 use crate::answer::TransfersAnswer;
 use crate::lacking::put_lacking;
+use crate::rounds::larger;
 use crate::rounds::take_round;
 use crate::sources::note_starts;
 use crate::sources::source_of;
-use crate::stored::larger;
+use crate::stored::DISK;
 ghost use mathlib.Core.Path.{_≡_};
 ghost use mathlib.Core.List.{[], map};
 ghost use Prim.Native.Nat.{_+_, _≤_, _<_};
@@ -13,11 +14,11 @@ ghost use Rattle.placement.specs.WellFormed.{Each};
 ghost use Rattle.transfer_schedule.specs.Schedule.{transfer, placeAll, schedule as scheduleOf, roundsOf};
 ghost use Rattle.transfer_schedule.specs.Fits.{mostTransfers, CopyFits, TransferFits};
 ghost use Rattle.transfer_schedule.specs.Transfers.{transferEntry};
-ghost use Rattle.transfer_schedule.specs.Words.{Ordered};
-ghost use Rattle.transfers.specs.Keys.{storedIn, rowLength, busyPlaces, BusyTable, FullTable, startPlaces, SearchStarts, PlacedNext, Outcome};
+ghost use Rattle.transfer_schedule.specs.Words.{InOrder};
+ghost use Rattle.transfers.specs.Keys.{storedIn, rowLength, busyPlaces, BusyTable, FullTable, startPlaces, SearchStarts, PlacedNext, TransfersMade};
 ghost use Rattle.transfers.specs.Answers.{transferNumbers};
 
-// The entry of a transfer.
+// The entry of a transfer: the film has the lowest 16 bits, source and destination 8 each, and the round all above.
 fn entry_of(source: u64, destination: u64, film: u64, round: u64) -> u64
     requires { ⌜ TransferFits (transfer source destination film round) ⌝ }
     ensures { λ r. ⌜ r ≡ transferEntry (transfer source destination film round) ⌝ }
@@ -32,8 +33,8 @@ fn place(key: u64, old: &[u64], starts: &[u16], busy: &mut [u8], full: &mut [u64
     ensures { λ r. ⌜ PlacedNext (map storedIn (now (old .entry))) (storedIn key) n (now (busy .entry)) (now (busy .exit)) r ⌝ }
     ensures { λ r. ⌜ FullTable (now (busy .exit)) (now (full .exit)) (n + 1) ⌝ }
 {
-    let film = key % 16777216;
-    let destination = key / 16777216;
+    let film = key % DISK;
+    let destination = key / DISK;
     let source = source_of(film, old, starts);
     let round = take_round(busy, full, source as usize, destination as usize, n);
     entry_of(source, destination, film, round as u64)
@@ -63,8 +64,9 @@ fn place_all(
     rounds
 }
 
-// The transfers from some copies to others, with their number and that of their rounds; with space to work in.
-fn transfers_with(
+// The transfers from some copies to others, with their number and that of their rounds; with space to work in. The keys of the copies that the
+// old ones lack stand among the entries first.
+fn transfers_between_with(
     old: &[u64],
     new: &[u64],
     entries: &mut [u64],
@@ -72,10 +74,10 @@ fn transfers_with(
     busy: &mut [u8],
     full: &mut [u64],
 ) -> TransfersAnswer
-    requires { ⌜ Each CopyFits (map storedIn (now old)) × Ordered (map storedIn (now old)) × (length (now old) ≤ mostTransfers) ⌝ }
-    requires { ⌜ Each CopyFits (map storedIn (now new)) × Ordered (map storedIn (now new)) × (length (now new) ≤ length (now entries)) ⌝ }
+    requires { ⌜ Each CopyFits (map storedIn (now old)) × InOrder (map storedIn (now old)) × (length (now old) ≤ mostTransfers) ⌝ }
+    requires { ⌜ Each CopyFits (map storedIn (now new)) × InOrder (map storedIn (now new)) × (length (now new) ≤ length (now entries)) ⌝ }
     requires { ⌜ (length (now entries) ≡ mostTransfers) × (length (now starts) ≡ startPlaces) × BusyTable (now busy) [] × FullTable (now busy) (now full) 0 ⌝ }
-    ensures { λ r. ⌜ Outcome (scheduleOf (map storedIn (now (old .entry))) (map storedIn (now (new .entry)))) (now (entries .exit)) (transferNumbers r) ⌝ }
+    ensures { λ r. ⌜ TransfersMade (scheduleOf (map storedIn (now (old .entry))) (map storedIn (now (new .entry)))) (now (entries .exit)) (transferNumbers r) ⌝ }
 {
     note_starts(old, starts);
     let n = put_lacking(old, new, entries);
@@ -86,15 +88,15 @@ fn transfers_with(
     }
 }
 
-// The same with space of its own: no search has started, and no end is busy.
+// The same with space of its own: no copy is noted, since 256 is behind all of them, and no end is busy.
 pub(crate) fn transfers_between(old: &[u64], new: &[u64], entries: &mut [u64]) -> TransfersAnswer
-    requires { ⌜ Each CopyFits (map storedIn (now old)) × Ordered (map storedIn (now old)) × (length (now old) ≤ mostTransfers) ⌝ }
-    requires { ⌜ Each CopyFits (map storedIn (now new)) × Ordered (map storedIn (now new)) × (length (now new) ≤ length (now entries)) ⌝ }
+    requires { ⌜ Each CopyFits (map storedIn (now old)) × InOrder (map storedIn (now old)) × (length (now old) ≤ mostTransfers) ⌝ }
+    requires { ⌜ Each CopyFits (map storedIn (now new)) × InOrder (map storedIn (now new)) × (length (now new) ≤ length (now entries)) ⌝ }
     requires { ⌜ length (now entries) ≡ mostTransfers ⌝ }
-    ensures { λ r. ⌜ Outcome (scheduleOf (map storedIn (now (old .entry))) (map storedIn (now (new .entry)))) (now (entries .exit)) (transferNumbers r) ⌝ }
+    ensures { λ r. ⌜ TransfersMade (scheduleOf (map storedIn (now (old .entry))) (map storedIn (now (new .entry)))) (now (entries .exit)) (transferNumbers r) ⌝ }
 {
     let mut starts = [256u16; 4096];
     let mut busy = [0u8; 2304];
     let mut full = [0u64; 9];
-    transfers_with(old, new, entries, &mut starts, &mut busy, &mut full)
+    transfers_between_with(old, new, entries, &mut starts, &mut busy, &mut full)
 }

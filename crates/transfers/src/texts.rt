@@ -1,12 +1,11 @@
 // The two texts: read one after the other into tables of our own, and their racks compared.
 use crate::answer::TextRead;
+use crate::answer::TextsRead;
 use crate::stored::put_disks;
 use reader::ReadAnswer;
 use refusal::Refusal;
 ghost use mathlib.Core.Path.{_≡_};
 ghost use mathlib.Core.Bool.{true};
-ghost use mathlib.Core.List.{map};
-ghost use Prim.Native.Nat.{_≤_};
 ghost use lib.ListN.{length};
 ghost use Rattle.refusal.specs.Verdict.{given};
 ghost use Rattle.placement.specs.Rack.{mostDisks, rackAccepted};
@@ -16,11 +15,14 @@ ghost use Rattle.placement.specs.Held.{markedFrom};
 ghost use Rattle.plan_text.specs.ReadCall.{textVerdict};
 ghost use Rattle.transfer_schedule.specs.Stored.{storedFrom};
 ghost use Rattle.transfer_schedule.specs.Fits.{mostTransfers};
-ghost use Rattle.transfer_schedule.specs.Transfers.{sameLine, racksJudged, textsVerdict};
+ghost use Rattle.transfer_schedule.specs.Transfers.{sameNumbers, racksJudged, textsVerdict};
 ghost use Rattle.transfers.specs.Keys.{TablesFit, KeysHold, StoredText, StoredNew, StoredTexts};
-ghost use Rattle.transfers.specs.Answers.{textRead};
+ghost use Rattle.transfers.specs.Answers.{textRead, textsRead};
 
-// The disks of a plan and how many keys its stored copies are; none where it has more than 8 disks.
+// The most disks of a rack whose transfers are found.
+const MOST_TRANSFER_DISKS: usize = 8;
+
+// Puts the keys of a plan's stored copies in front, and answers how many disks it has and how many copies; 0 where the disks are more than 8.
 fn stored_copies(rack: &[u64], copies: &[u64], counts: &[u32], keys: &mut [u64]) -> TextRead
     requires { ⌜ TablesFit (disksIn (now rack)) (now copies) (now counts) ⌝ }
     requires { ⌜ rackAccepted (disksIn (now rack)) ≡ true ⌝ }
@@ -29,16 +31,13 @@ fn stored_copies(rack: &[u64], copies: &[u64], counts: &[u32], keys: &mut [u64])
         (now (keys .exit)) (textRead r) ⌝ }
 {
     let disks = rack.len();
-    if disks > 8 {
-        return TextRead::Stored {
-            first: disks,
-            second: 0,
-        };
+    if disks > MOST_TRANSFER_DISKS {
+        return TextRead::Stored { disks, copies: 0 };
     }
     let stored = put_disks(rack, copies, counts, keys);
     TextRead::Stored {
-        first: disks,
-        second: stored,
+        disks,
+        copies: stored,
     }
 }
 
@@ -74,7 +73,7 @@ fn read_stored(text: &[u8], rack: &mut [u64], keys: &mut [u64]) -> TextRead
 
 // Whether two racks are the same: the disks before `i` are.
 fn same_racks(old: &[u64], new: &[u64]) -> bool
-    ensures { λ r. ⌜ r ≡ sameLine (now (old .entry)) (now (new .entry)) ⌝ }
+    ensures { λ r. ⌜ r ≡ sameNumbers (now (old .entry)) (now (new .entry)) ⌝ }
 {
     if old.len() != new.len() {
         return false;
@@ -90,22 +89,22 @@ fn same_racks(old: &[u64], new: &[u64]) -> bool
 }
 
 // Judges two racks: 14, then 15. Equal racks have equal first lines and others have not.
-fn judge_racks(old: &[u64], new: &[u64], oldcopies: usize, newcopies: usize) -> TextRead
+fn judge_racks(old: &[u64], new: &[u64], oldcopies: usize, newcopies: usize) -> TextsRead
     requires { ⌜ (rackAccepted (disksIn (now old)) ≡ true) × (rackAccepted (disksIn (now new)) ≡ true) ⌝ }
-    ensures { λ r. ⌜ textRead r ≡ racksJudged (disksIn (now (old .entry))) (disksIn (now (new .entry))) (given (oldcopies, newcopies)) ⌝ }
+    ensures { λ r. ⌜ textsRead r ≡ racksJudged (disksIn (now (old .entry))) (disksIn (now (new .entry))) (given (oldcopies, newcopies)) ⌝ }
 {
-    if old.len() > 8 {
-        return TextRead::Declined(Refusal::TooManyDisks);
+    if old.len() > MOST_TRANSFER_DISKS {
+        return TextsRead::NoneStored(Refusal::TooManyDisks);
     }
-    if new.len() > 8 {
-        return TextRead::Declined(Refusal::TooManyDisks);
+    if new.len() > MOST_TRANSFER_DISKS {
+        return TextsRead::NoneStored(Refusal::TooManyDisks);
     }
     if !same_racks(old, new) {
-        return TextRead::Declined(Refusal::FirstLinesDiffer);
+        return TextsRead::NoneStored(Refusal::FirstLinesDiffer);
     }
-    TextRead::Stored {
-        first: oldcopies,
-        second: newcopies,
+    TextsRead::BothStored {
+        old: oldcopies,
+        new: newcopies,
     }
 }
 
@@ -116,19 +115,19 @@ fn read_new(
     oldcopies: usize,
     newrack: &mut [u64],
     newkeys: &mut [u64],
-) -> TextRead
+) -> TextsRead
     requires { ⌜ rackAccepted (disksIn (now oldrack)) ≡ true ⌝ }
     requires { ⌜ (length (now newrack) ≡ mostDisks) × (length (now newkeys) ≡ mostTransfers) ⌝ }
-    ensures { λ r. ⌜ StoredNew (textVerdict (now (new .entry))) (disksIn (now (oldrack .entry))) oldcopies (now (newkeys .exit)) (textRead r) ⌝ }
+    ensures { λ r. ⌜ StoredNew (textVerdict (now (new .entry))) (disksIn (now (oldrack .entry))) oldcopies (now (newkeys .exit)) (textsRead r) ⌝ }
 {
     let read = read_stored(new, newrack, newkeys);
     match read {
-        TextRead::Declined(refusal) => TextRead::Declined(refusal),
-        TextRead::Stored { first, second } => judge_racks(
+        TextRead::Declined(refusal) => TextsRead::NoneStored(refusal),
+        TextRead::Stored { disks, copies } => judge_racks(
             oldrack,
-            &newrack[..first],
+            &newrack[..disks],
             oldcopies,
-            second,
+            copies,
         ),
     }
 }
@@ -141,18 +140,18 @@ fn read_texts_with(
     newrack: &mut [u64],
     oldkeys: &mut [u64],
     newkeys: &mut [u64],
-) -> TextRead
+) -> TextsRead
     requires { ⌜ (length (now oldrack) ≡ mostDisks) × (length (now oldkeys) ≡ mostTransfers) ⌝ }
     requires { ⌜ (length (now newrack) ≡ mostDisks) × (length (now newkeys) ≡ mostTransfers) ⌝ }
-    ensures { λ r. ⌜ StoredTexts (textsVerdict (now (old .entry)) (now (new .entry))) (now (oldkeys .exit)) (now (newkeys .exit)) (textRead r) ⌝ }
+    ensures { λ r. ⌜ StoredTexts (textsVerdict (now (old .entry)) (now (new .entry))) (now (oldkeys .exit)) (now (newkeys .exit)) (textsRead r) ⌝ }
 {
     let read = read_stored(old, oldrack, oldkeys);
     match read {
-        TextRead::Declined(refusal) => TextRead::Declined(refusal),
-        TextRead::Stored { first, second } => read_new(
+        TextRead::Declined(refusal) => TextsRead::NoneStored(refusal),
+        TextRead::Stored { disks, copies } => read_new(
             new,
-            &oldrack[..first],
-            second,
+            &oldrack[..disks],
+            copies,
             newrack,
             newkeys,
         ),
@@ -165,9 +164,9 @@ pub(crate) fn read_texts(
     new: &[u8],
     oldkeys: &mut [u64],
     newkeys: &mut [u64],
-) -> TextRead
+) -> TextsRead
     requires { ⌜ (length (now oldkeys) ≡ mostTransfers) × (length (now newkeys) ≡ mostTransfers) ⌝ }
-    ensures { λ r. ⌜ StoredTexts (textsVerdict (now (old .entry)) (now (new .entry))) (now (oldkeys .exit)) (now (newkeys .exit)) (textRead r) ⌝ }
+    ensures { λ r. ⌜ StoredTexts (textsVerdict (now (old .entry)) (now (new .entry))) (now (oldkeys .exit)) (now (newkeys .exit)) (textsRead r) ⌝ }
 {
     let mut oldrack = [0u64; 64];
     let mut newrack = [0u64; 64];

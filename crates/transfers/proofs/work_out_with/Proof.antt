@@ -1,15 +1,14 @@
 -- `transfers::work_out_with` meets its contract: the texts are refused, or the transfers are those between their stored copies.
 use borrow.Author.Needs.{needs}
-use mathlib.Core.Path.{_≡_, sym, ap, subst}
+use mathlib.Core.Path.{sym, ap, subst}
 use mathlib.Core.List.{List}
-use Prim.Native.Nat.{ℕ, _≤_}
+use Prim.Native.Nat.{ℕ}
 use native.Mathlib.Omega.{arith}
-use lib.ListN.{length, take}
 use lib.Seq.{length-take-le}
 use Rattle.refusal.specs.Numbers.{numberOf, secondOf}
 use Rattle.transfer_schedule.specs.Transfers.{textsVerdict}
 use Rattle.transfers.specs.Keys.{StoredTexts}
-use Rattle.transfers.specs.Answers.{transferNumbers, textRead}
+use Rattle.transfers.specs.Answers.{transferNumbers, textsRead}
 use Rattle.transfers.proofs.TextsSteps.{BothAs, both-as, both-refused, both-worked, olds-fit, news-fit, olds-ordered, news-ordered}
 use Rattle.transfers.proofs.work_out_with.Statement.{statement}
 use Rattle.transfers.proofs.work_out_with.Tie as tie
@@ -40,7 +39,7 @@ module _ (c : tie.After-known-told2) where
   plans-read : BothAs (textsVerdict (start .args .old .now) (start .args .new .now)) oldkeys newkeys m n
   plans-read =
       both-as (textsVerdict (start .args .old .now) (start .args .new .now)) oldkeys newkeys m n
-      (subst (StoredTexts (textsVerdict (start .args .old .now) (start .args .new .now)) oldkeys newkeys) (ap textRead (c .before .read2 .given .1)) (at-read .read-texts .ensures))
+      (subst (StoredTexts (textsVerdict (start .args .old .now) (start .args .new .now)) oldkeys newkeys) (ap textsRead (c .before .read2 .given .1)) (at-read .read-texts .ensures))
 
 slice-reshare-prefix-transfers-between : tie.Need-slice-reshare-prefix-transfers-between
 slice-reshare-prefix-transfers-between c = plans-read c .oldRoom
@@ -86,7 +85,7 @@ returns c =
     both-refused (textsVerdict (a .old .now) (a .new .now)) (at-read .read-texts .last .1 .1 .0) (at-read .read-texts .last .1 .1 .1 .0) (a .entries .now)
     (numberOf r) (secondOf r)
     (subst (StoredTexts (textsVerdict (a .old .now) (a .new .now)) (at-read .read-texts .last .1 .1 .0) (at-read .read-texts .last .1 .1 .1 .0))
-    (ap textRead (c .before .read .given .1)) (at-read .read-texts .ensures))
+    (ap textsRead (c .before .read .given .1)) (at-read .read-texts .ensures))
 
 returns-2 : tie.Need-returns-2
 returns-2 c =

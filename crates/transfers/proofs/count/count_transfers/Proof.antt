@@ -1,13 +1,13 @@
 -- `transfers::count_transfers` meets its contract. The invariant: the transfers before `i` are counted.
 use borrow.Author.Needs.{needs}
-use mathlib.Core.Path.{_≡_, refl, sym, ap, _∙_}
+use mathlib.Core.Path.{_≡_, sym, ap, _∙_}
 use mathlib.Core.List.{List, [], map}
 use Prim.Native.Nat.{ℕ, _+_, _-_, _≤_, _<_}
 use native.Mathlib.Omega.{arith}
 use lib.ListN.{length, take, getD, set, length-map}
 use lib.Seq.{length-take-le, take-all}
 use Rattle.transfer_schedule.specs.Schedule.{Transfer}
-use Rattle.transfer_schedule.specs.Counts.{countBy, goes, countTable, countAt}
+use Rattle.transfer_schedule.specs.Counts.{goes, countTable, countAt}
 use Rattle.transfer_schedule.specs.Transfers.{transferIn}
 use Rattle.transfer_schedule.specs.Fits.{TransferFits}
 use Rattle.transfer_schedule.proofs.Mapped.{each-mapped, mapped-more}

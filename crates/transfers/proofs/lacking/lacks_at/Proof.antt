@@ -1,7 +1,6 @@
 -- `transfers::lacks_at` meets its contract: the key stands at the place, another one does, or it is the end.
 use borrow.Author.Needs.{needs}
-use mathlib.Core.Path.{sym, ap}
-use mathlib.Core.Bool.{Bool, cond}
+use mathlib.Core.Path.{sym}
 use Rattle.placement.proofs.Conjunctions.{cond-true, cond-false}
 use Rattle.transfers.proofs.Passing.{passed-found, passed-other, passed-end}
 use Rattle.transfers.proofs.lacking.lacks_at.Statement.{statement}

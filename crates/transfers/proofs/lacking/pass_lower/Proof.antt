@@ -1,10 +1,8 @@
 -- `transfers::pass_lower` meets its contract. The invariant: the keys before `i` are below.
 use borrow.Author.Needs.{needs}
-use mathlib.Core.Path.{sym, subst}
-use mathlib.Core.List.{List, [], _∷_, _++_}
-use Prim.Native.Nat.{ℕ, _+_, _-_, _≤_, _<_}
+use Prim.Native.Nat.{_-_, _≤_, _<_}
 use native.Mathlib.Omega.{arith}
-use lib.ListN.{length, take, getD}
+use lib.ListN.{length, take}
 use Rattle.placement.specs.WellFormed.{Each}
 use Rattle.transfers.proofs.Passing.{below-more}
 use Rattle.transfers.proofs.lacking.pass_lower.Statement.{statement}

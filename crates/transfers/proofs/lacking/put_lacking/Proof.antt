@@ -8,7 +8,7 @@ use native.Mathlib.Omega.{arith}
 use lib.ListN.{length, take, getD, set, length-set}
 use lib.Seq.{take-all}
 use Rattle.placement.specs.WellFormed.{Each}
-use Rattle.transfer_schedule.specs.Stored.{StoredCopy, isStored}
+use Rattle.transfer_schedule.specs.Stored.{isStored}
 use Rattle.transfer_schedule.specs.Schedule.{lacking}
 use Rattle.transfers.specs.Keys.{storedIn, storedAt}
 use Rattle.transfers.proofs.Passing.{next-key, below-higher, lacking-more}

@@ -1,6 +1,4 @@
 -- `transfers::both_free` meets its contract: the first test, then the second.
-use mathlib.Core.Path.{_≡_, sym, ap, _∙_}
-use mathlib.Core.Bool.{_&&_}
 use borrow.Author.Tests.{eq-eqb, ne-eqb}
 use Rattle.placement.proofs.Conjunctions.{first-fails, second-decides}
 use Rattle.transfers.proofs.rounds.both_free.Statement.{statement}

@@ -1,27 +1,23 @@
 -- `transfers::earliest` meets its contract. The invariant: the earliest of all n rounds is the earliest of those from r + 1 on.
 use borrow.Author.Needs.{needs}
-use mathlib.Core.Path.{_≡_, refl, sym, ap, _∙_}
-use mathlib.Core.Bool.{Bool, true, false, _&&_}
+use mathlib.Core.Path.{_≡_, sym, _∙_}
 use mathlib.Core.List.{List}
-use Prim.Native.Nat.{ℕ, suc, _+_, _-_, _*_, _≤_, _<_}
-use native.Mathlib.Numerals.{add-one}
+use Prim.Native.Nat.{ℕ, suc, _-_, _≤_}
 use native.Mathlib.Omega.{arith}
-use lib.Dec.{eqb}
-use lib.ListN.{length, getD}
 use Rattle.transfer_schedule.specs.Schedule.{Transfer, bothFree, earliestFrom}
-use Rattle.transfers.specs.Keys.{rowLength, BusyTable}
-use Rattle.transfers.proofs.Busy.{places-free, earliest-passed, earliest-found, earliest-next, earliest-none}
+use Rattle.transfers.specs.Keys.{BusyTable}
+use Rattle.transfers.proofs.FreeRounds.{places-free, earliest-passed, earliest-found, earliest-next, earliest-none}
 use Rattle.transfers.proofs.rounds.earliest.Statement.{statement}
 use Rattle.transfers.proofs.rounds.earliest.Tie as tie
 
--- For all transfers that the table says.
-abbrev Passed : (busy : List ℕ) → (source destination n r : ℕ) → Type 0
-Passed busy source destination n r =
+-- The first r rounds are passed, for all transfers that the table says.
+abbrev RoundsPassed : (busy : List ℕ) → (source destination n r : ℕ) → Type 0
+RoundsPassed busy source destination n r =
     (placed : List Transfer) → BusyTable busy placed
     → earliestFrom n placed source destination 1 ≡ earliestFrom (n - r) placed source destination (suc r)
 
 abbrev Inv-loop : tie.InvT-loop
-Inv-loop busy source destination from n r₀ r = (r ≤ n) × Passed busy source destination n r
+Inv-loop busy source destination from n r₀ r = (r ≤ n) × RoundsPassed busy source destination n r
 
 abbrev μ-loop : tie.MeasureT-loop
 μ-loop busy source destination from n r₀ r = n - r

@@ -25,12 +25,12 @@ no-rounds = record {
   ones = λ end few r less. absurd (omega (arith, less, getD-replicate {A = ℕ} ends end 0 0 few));
 }
 
-transfers-with-requires : tie.Need-transfers-with-requires
-transfers-with-requires c κs =
+transfers-between-with-requires : tie.Need-transfers-between-with-requires
+transfers-between-with-requires c κs =
     let pre = c .before .before .before .before .before .before .before .pre in
     (pre .0, (pre .1 .0, (pre .1 .1, length-replicate {A = ℕ} startPlaces 256, free-table, no-rounds)))
 
 pub transfers-between-spec : {M : Type 1} → statement M
 transfers-between-spec =
     tie.close
-    (tie.spec (λ c. search needs) (λ c. search needs) (λ c. search needs) transfers-with-requires (λ c. search needs) (λ c. search needs))
+    (tie.spec (λ c. search needs) (λ c. search needs) (λ c. search needs) transfers-between-with-requires (λ c. search needs) (λ c. search needs))

@@ -1,11 +1,11 @@
 -- `transfers::note_starts` meets its contract. The invariant: the starts are noted for the copies from `i` on.
 use borrow.Author.Needs.{needs}
-use mathlib.Core.Path.{_≡_, sym, ap, subst, _∙_}
-use mathlib.Core.List.{List, map}
-use Prim.Native.Nat.{ℕ, _+_, _-_, _%_, _≤_, _<_}
+use mathlib.Core.Path.{_≡_, subst, _∙_}
+use mathlib.Core.List.{map}
+use Prim.Native.Nat.{_+_, _-_, _%_, _≤_, _<_}
 use native.Mathlib.Omega.{arith}
 use lib.ListN.{length, getD, length-map, length-set}
-use Rattle.transfers.specs.Keys.{storedIn, startPlaces, SearchStarts}
+use Rattle.transfers.specs.Keys.{storedIn, startPlaces}
 use Rattle.transfers.proofs.Starting.{StartsFrom, starts-none, starts-more, starts-all}
 use Rattle.transfers.proofs.Looks.{copy-here}
 use Rattle.transfers.proofs.sources.note_starts.Statement.{statement}

@@ -1,6 +1,6 @@
 -- `transfers::judge_racks` meets its contract: 14, 14, 15, or both sizes.
 use borrow.Author.Needs.{needs}
-use mathlib.Core.Path.{_≡_, refl, sym, ap, ap₂, _∙_}
+use mathlib.Core.Path.{_≡_, sym, ap, ap₂, _∙_}
 use mathlib.Core.Bool.{Bool, true, false, _&&_}
 use mathlib.Core.List.{List}
 use Prim.Native.Nat.{ℕ, _≤_, _<_}
@@ -11,7 +11,7 @@ use Rattle.refusal.specs.Verdict.{Verdict, given, unless}
 use Rattle.placement.specs.Packed.{disksIn}
 use Rattle.placement.proofs.PackedRacks.{disks-length}
 use Rattle.plan_text.specs.Text.{firstLine}
-use Rattle.transfer_schedule.specs.Transfers.{fewDisks, sameLine, racksJudged}
+use Rattle.transfer_schedule.specs.Transfers.{fewDisks, sameNumbers, racksJudged}
 use Rattle.transfer_schedule.proofs.Lines.{line-numbers}
 use Rattle.transfers.proofs.texts.judge_racks.Statement.{statement}
 use Rattle.transfers.proofs.texts.judge_racks.Tie as tie
@@ -28,7 +28,7 @@ abbrev judged : Bool → Bool → ℕ × ℕ → Verdict (ℕ × ℕ)
 judged short same sizes = unless short 14 0 (unless same 15 0 (given sizes))
 
 abbrev linesSame : (old new : List ℕ) → Bool
-linesSame old new = sameLine (firstLine (disksIn old)) (firstLine (disksIn new))
+linesSame old new = sameNumbers (firstLine (disksIn old)) (firstLine (disksIn new))
 
 returns : tie.Need-returns
 returns c =

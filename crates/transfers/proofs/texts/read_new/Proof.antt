@@ -1,18 +1,17 @@
 -- `transfers::read_new` meets its contract: the new text is refused, or both racks are judged.
 use borrow.Author.Needs.{needs}
-use mathlib.Core.Path.{_≡_, sym, ap, subst, _∙_}
+use mathlib.Core.Path.{sym, ap, subst}
 use mathlib.Core.List.{List}
 use Prim.Native.Nat.{ℕ, _≤_}
 use native.Mathlib.Omega.{arith}
-use lib.ListN.{length, take, length-take}
+use lib.ListN.{length}
 use lib.Seq.{length-take-le}
-use Rattle.refusal.specs.Verdict.{Verdict, given}
+use Rattle.refusal.specs.Verdict.{given}
 use Rattle.refusal.specs.Numbers.{numberOf, secondOf}
 use Rattle.placement.specs.Packed.{disksIn}
-use Rattle.placement.specs.Plan.{Plan}
 use Rattle.plan_text.specs.ReadCall.{textVerdict}
 use Rattle.transfers.specs.Keys.{StoredText}
-use Rattle.transfers.specs.Answers.{textRead}
+use Rattle.transfers.specs.Answers.{textRead, textsRead}
 use Rattle.transfers.proofs.ReadSteps.{ReadAs, read-as, rack-most, read-refusal, read-accepted, new-refused, new-judged}
 use Rattle.transfers.proofs.texts.read_new.Statement.{statement}
 use Rattle.transfers.proofs.texts.read_new.Tie as tie
@@ -77,7 +76,7 @@ returns-2 : tie.Need-returns-2
 returns-2 c =
     let at-plan = c .before .before in
     new-judged (textVerdict (start at-plan .args .new .now)) (rack at-plan) (keys at-plan) (disks at-plan) (copies at-plan) (plan-read at-plan)
-    (disksIn (start at-plan .args .oldrack .now)) (start at-plan .args .oldcopies) (textRead (c .judge-racks .result)) (c .judge-racks .ensures)
+    (disksIn (start at-plan .args .oldrack .now)) (start at-plan .args .oldcopies) (textsRead (c .judge-racks .result)) (c .judge-racks .ensures)
 
 pub read-new-spec : {M : Type 1} → statement M
 read-new-spec =

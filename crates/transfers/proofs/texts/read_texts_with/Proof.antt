@@ -1,6 +1,6 @@
 -- `transfers::read_texts_with` meets its contract: the old text is refused, or the new one is read behind it.
 use borrow.Author.Needs.{needs}
-use mathlib.Core.Path.{_≡_, sym, ap, subst}
+use mathlib.Core.Path.{sym, ap, subst}
 use mathlib.Core.List.{List}
 use Prim.Native.Nat.{ℕ, _≤_}
 use native.Mathlib.Omega.{arith}
@@ -9,7 +9,7 @@ use lib.Seq.{length-take-le}
 use Rattle.refusal.specs.Numbers.{numberOf, secondOf}
 use Rattle.plan_text.specs.ReadCall.{textVerdict}
 use Rattle.transfers.specs.Keys.{StoredText}
-use Rattle.transfers.specs.Answers.{textRead}
+use Rattle.transfers.specs.Answers.{textRead, textsRead}
 use Rattle.transfers.proofs.ReadSteps.{ReadAs, read-as, rack-most, read-refusal, read-accepted, old-refused, both-stored}
 use Rattle.transfers.proofs.texts.read_texts_with.Statement.{statement}
 use Rattle.transfers.proofs.texts.read_texts_with.Tie as tie
@@ -75,7 +75,7 @@ returns-2 c =
     let at-new = c .before .before .before .before in
     let at-plan = at-new .before .before .before .before in
     both-stored (textVerdict (start at-plan .args .old .now)) (textVerdict (start at-plan .args .new .now)) (rack at-plan) (keys at-plan)
-    (at-new .read-new .last .1 .1 .1 .1 .0) (disks at-plan) (copies at-plan) (plan-read at-plan) (textRead (at-new .read-new .result)) (at-new .read-new .ensures)
+    (at-new .read-new .last .1 .1 .1 .1 .0) (disks at-plan) (copies at-plan) (plan-read at-plan) (textsRead (at-new .read-new .result)) (at-new .read-new .ensures)
 
 pub read-texts-with-spec : {M : Type 1} → statement M
 read-texts-with-spec =

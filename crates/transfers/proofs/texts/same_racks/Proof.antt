@@ -1,18 +1,16 @@
 -- `transfers::same_racks` meets its contract. The invariant: the racks are the same where the disks from `i` on are.
 use borrow.Author.Needs.{needs}
-use mathlib.Core.Path.{_≡_, refl, sym, ap, ap₂, _∙_}
-use mathlib.Core.List.{List}
-use Prim.Native.Nat.{ℕ, _+_, _-_, _≤_}
+use mathlib.Core.Path.{_≡_, refl, sym, ap₂, _∙_}
+use Prim.Native.Nat.{_-_, _≤_}
 use native.Mathlib.Omega.{arith}
-use borrow.Author.Tests.{eq-eqb, ne-eqb}
-use lib.ListN.{length, getD, drop, drop-of-length-le}
-use Rattle.transfer_schedule.specs.Transfers.{sameLine}
+use lib.ListN.{length, drop, drop-of-length-le}
+use Rattle.transfer_schedule.specs.Transfers.{sameNumbers}
 use Rattle.transfer_schedule.proofs.Lines.{same-lengths, same-fails, same-later}
 use Rattle.transfers.proofs.texts.same_racks.Statement.{statement}
 use Rattle.transfers.proofs.texts.same_racks.Tie as tie
 
 abbrev Inv-loop : tie.InvT-loop
-Inv-loop old new i₀ i = sameLine old new ≡ sameLine (drop i old) (drop i new)
+Inv-loop old new i₀ i = sameNumbers old new ≡ sameNumbers (drop i old) (drop i new)
 
 abbrev μ-loop : tie.MeasureT-loop
 μ-loop old new i₀ i = length old - i
@@ -37,7 +35,7 @@ returns-3 c =
     let ended = c .loop-test .left in
     let start = c .before .before .before in
     let past : length (start .args .new .now) ≤ c .before .loop .i = omega (arith, ended, c .before .before .if1 .left) in
-    sym (c .before .loop .inv ∙ ap₂ sameLine (drop-of-length-le _ ended) (drop-of-length-le _ past))
+    sym (c .before .loop .inv ∙ ap₂ sameNumbers (drop-of-length-le _ ended) (drop-of-length-le _ past))
 
 pub same-racks-spec : {M : Type 1} → statement M
 same-racks-spec =

@@ -9,7 +9,7 @@ use Rattle.placement.specs.Packed.{disksIn}
 use Rattle.placement.specs.Held.{markedFrom}
 use Rattle.placement.proofs.PackedRacks.{disks-length}
 use Rattle.transfer_schedule.specs.Stored.{storedFrom}
-use Rattle.transfers.specs.Keys.{keyOf}
+use Rattle.transfers.specs.Keys.{copyKey}
 use Rattle.transfers.proofs.StoredKeys.{slots-few, keys-read}
 use Rattle.transfers.proofs.texts.stored_copies.Statement.{statement}
 use Rattle.transfers.proofs.texts.stored_copies.Tie as tie
@@ -41,7 +41,7 @@ returns-2 c =
     let number : at-put .put-disks .result ≡ length cs = at-put .put-disks .ensures .1 in (
       at-put .put-disks .result,
       refl,
-      omega (arith, number, length-map cs keyOf, ap length (at-put .put-disks .ensures .0), length-append (map keyOf cs) (drop (length (map keyOf cs)) (a .keys .now))),
+      omega (arith, number, length-map cs copyKey, ap length (at-put .put-disks .ensures .0), length-append (map copyKey cs) (drop (length (map copyKey cs)) (a .keys .now))),
       λ few. keys-read (disksIn (a .rack .now)) (a .copies .now) (a .counts .now) (a .keys .now) keys (at-put .put-disks .result) (at-put .put-disks .ensures .0) number,
     )
 

@@ -1,4 +1,4 @@
--- `transfers::transfers_with` meets its contract: what the old copies lack is placed, and the largest round is the number of rounds.
+-- `transfers::transfers_between_with` meets its contract: the copies that the old ones lack are placed, and the largest round is the number of rounds.
 use borrow.Author.Needs.{needs}
 use mathlib.Core.Path.{_≡_, sym, ap, ap₂, subst, _∙_}
 use mathlib.Core.List.{List, [], _∷_, map}
@@ -11,13 +11,13 @@ use Rattle.transfer_schedule.specs.Stored.{StoredCopy}
 use Rattle.transfer_schedule.specs.Schedule.{Transfer, placeAll, roundsOf}
 use Rattle.transfer_schedule.specs.Schedule.{schedule as scheduleOf}
 use Rattle.transfer_schedule.specs.Fits.{CopyFits, TransferFits}
-use Rattle.transfer_schedule.specs.Transfers.{transferEntry, sums}
+use Rattle.transfer_schedule.specs.Transfers.{transferEntry, scheduleSize}
 use Rattle.transfer_schedule.proofs.Lacking.{lacking-each}
 use Rattle.transfer_schedule.proofs.Placing.{place-length}
 use Rattle.transfer_schedule.proofs.Scheduled.{schedule-fits}
 use Rattle.transfers.specs.Keys.{storedIn, storedAt}
-use Rattle.transfers.proofs.schedule.transfers_with.Statement.{statement}
-use Rattle.transfers.proofs.schedule.transfers_with.Tie as tie
+use Rattle.transfers.proofs.schedule.transfers_between_with.Statement.{statement}
+use Rattle.transfers.proofs.schedule.transfers_between_with.Tie as tie
 
 -- No round is above 256.
 rounds-most : (ts : List Transfer) → Each TransferFits ts → roundsOf ts ≤ 256
@@ -117,14 +117,14 @@ returns c =
     let made : entries ≡ map transferEntry ts = at-placed .place-all .ensures .0 ∙ ap (map transferEntry) (placed-is at-lacking) in
     let long : length entries ≡ length ts = ap length made ∙ length-map ts transferEntry in
     record {
-      told = ap₂ (λ (k r : ℕ). record { refusal = 0; second = 0; values = sums k r }) (sym (number at-lacking)) (rounds-are at-placed);
+      told = ap₂ (λ (k r : ℕ). record { refusal = 0; second = 0; values = scheduleSize k r }) (sym (number at-lacking)) (rounds-are at-placed);
       front = take-at entries rest (length ts) long ∙ made;
       fit = fits at-lacking;
       room = omega (arith, long, length-append entries rest);
     }
 
-pub transfers-with-spec : {M : Type 1} → statement M
-transfers-with-spec =
+pub transfers-between-with-spec : {M : Type 1} → statement M
+transfers-between-with-spec =
     tie.close
     (tie.spec
     (λ c κs. search needs)

@@ -1,24 +1,22 @@
--- `transfers::transfers_through` meets its contract: a refusal of the texts, 7, or the transfers and their counts stored.
+-- `transfers::transfers_counted_with` meets its contract: a refusal of the texts, 7, or the transfers and their counts stored.
 use borrow.Author.Needs.{needs}
-use mathlib.Core.Path.{_≡_, refl, sym, ap, ap₂, subst, _∙_}
-use mathlib.Core.List.{List, _++_, map}
+use mathlib.Core.Path.{refl, sym, ap, subst, _∙_}
+use mathlib.Core.List.{List, _++_}
 use mathlib.Core.Logic.{_⊎_, inl, inr}
 use Prim.Native.Nat.{ℕ, _≤_, _<_}
 use native.Mathlib.Omega.{arith}
-use lib.ListN.{length, take, drop}
+use lib.ListN.{length, drop}
 use lib.Seq.{length-take-le}
 use Rattle.refusal.specs.Verdict.{Numbers}
-use Rattle.placement.specs.Tables.{written}
-use Rattle.transfer_schedule.specs.Counts.{countTable}
-use Rattle.transfer_schedule.specs.Transfers.{transferIn, textsVerdict, Sums, sums}
+use Rattle.transfer_schedule.specs.Transfers.{textsVerdict, ScheduleSize, scheduleSize}
 use Rattle.transfers.specs.Keys.{WorkedOut}
 use Rattle.transfers.specs.Answers.{transferNumbers}
 use Rattle.transfer_schedule.specs.TransfersPromise.{CountedPromise}
 use Rattle.transfers.proofs.RefusedAnswers.{refused-some}
 use Rattle.transfers.proofs.WorkedOut.{worked-refused, worked-short, worked-given, worked-fits}
 use Rattle.transfer_schedule.proofs.CountsPromise.{counted-promise}
-use Rattle.transfers.proofs.transfers_through.Statement.{statement}
-use Rattle.transfers.proofs.transfers_through.Tie as tie
+use Rattle.transfers.proofs.transfers_counted_with.Statement.{statement}
+use Rattle.transfers.proofs.transfers_counted_with.Tie as tie
 
 -- The place of the transfers that were worked out, and what stands in front of the entries.
 module _ (c : tie.After-answer) where
@@ -34,8 +32,8 @@ module _ (c : tie.After-answer) where
   abbrev n : ℕ
   n = c .answer .given .0 .0
 
-  abbrev numbers : Numbers Sums
-  numbers = record { refusal = 0; second = 0; values = sums n (c .answer .given .0 .1 .0) }
+  abbrev numbers : Numbers ScheduleSize
+  numbers = record { refusal = 0; second = 0; values = scheduleSize n (c .answer .given .0 .1 .0) }
 
   worked : WorkedOut (textsVerdict (start .args .old .now) (start .args .new .now)) entries numbers
   worked =
@@ -47,7 +45,7 @@ module _ (c : tie.After-answer) where
   -- 7 where the list or the table is too short.
   short : (length (start .args .list .now) < n) ⊎ (length (start .args .counts .now) < 9)
       → CountedPromise (start .args .old .now) (start .args .new .now) (start .args .list .now) (start .args .list .now) (start .args .counts .now) (start .args .counts .now)
-      (record { refusal = 7; second = 0; values = sums 0 0 })
+      (record { refusal = 7; second = 0; values = scheduleSize 0 0 })
   short s =
       let k = worked-short (start .args .old .now) (start .args .new .now) entries numbers worked (start .args .list .now) (start .args .counts .now) refl s in
       counted-promise (start .args .old .now) (start .args .new .now) (start .args .list .now) (start .args .counts .now) (k .0) (k .1) (k .2)
@@ -108,8 +106,8 @@ returns-4 c =
     counted-promise (a .old .now) (a .new .now) (a .list .now) (a .counts .now) (k .0) (at-listed .put-entries .ensures ∙ k .1)
     (c .before .put-rows .ensures ∙ ap (λ (table : List (List ℕ)). table ++ drop 9 (a .counts .now)) (at-counted .count-transfers .ensures) ∙ k .2)
 
-pub transfers-through-spec : {M : Type 1} → statement M
-transfers-through-spec =
+pub transfers-counted-with-spec : {M : Type 1} → statement M
+transfers-counted-with-spec =
     tie.close
     (tie.spec
     (λ c κs. search needs)
