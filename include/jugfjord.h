@@ -243,13 +243,13 @@ struct jugfjord_transferred {
  * is one number: the film in its bits 0 to 15, the source in 16 to 23, the destination in 24 to 31 and the round from bit 32 on;
  * the functions above take it apart. JUGFJORD_MOST_TRANSFERS entries are always enough. `counts` has nine rows of nine numbers:
  * counts[source][destination] becomes the number of transfers from the one to the other, and the sum over the table is the number
- * of transfers. `rows` is the number of rows lent, at least JUGFJORD_ENDS. `counts` cannot be left out: NULL with 0 rows is 7.
- * Entries beyond the transfers and rows beyond the nine stay as they were.
+ * of transfers. `rows` is the number of rows lent, at least JUGFJORD_ENDS; `counts` cannot be left out. Entries beyond the
+ * transfers and rows beyond the nine stay as they were.
  *
  * Refusals 8 and 9 with the line for the old text, then 8 and 9 with the line for the new text, 14, 15, and 7 where the list is
- * shorter than the transfers or there are fewer than nine rows. 8 and 9 do not say which text they are of: `jugfjord_judge` of
- * the old text does. Where it refuses that text, it has the same two numbers and they are of the old text; else they are of the
- * new one. Less than 80 KiB of stack. */
+ * shorter than the transfers or there are fewer than nine rows. 7 does not say how many transfers there are. 8 and 9 do not say
+ * which text they are of: `jugfjord_judge` of the old text does. Where it refuses that text, it has the same two numbers and they
+ * are of the old text; else they are of the new one. Less than 80 KiB of stack. */
 struct jugfjord_transferred jugfjord_transfers(const uint8_t *old_text, size_t old_count,
                                                const uint8_t *new_text, size_t new_count,
                                                uint64_t *transfers, size_t transfers_count,

@@ -62,7 +62,7 @@ const WORDS: [Words; 15] = [
     words_of_a("record", "film number", "is outside 1 to 65535"),
     words_of_a("record", "demand", "is outside 0 to 1000000"),
     words_of_a("record", "film", "is in the list twice"),
-    words("a lent table or rack", "is too short"),
+    words("a lent table, list or rack", "is too short"),
     words("the text", "has more than 65536 bytes"),
     words_of_a(
         "line",

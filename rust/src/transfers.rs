@@ -4,13 +4,13 @@ use std::fmt;
 
 use crate::rack::MOST_SLOTS;
 
-/// The disks of a rack whose transfers are found.
+/// The most disks of a rack whose transfers are found.
 pub const MOST_TRANSFER_DISKS: usize = 8;
 /// What a transfer may start from or go to: the loader, number 0, and the disks by their numbers.
 pub const ENDS: usize = MOST_TRANSFER_DISKS + 1;
 /// The number of the loader.
 pub const LOADER: u32 = 0;
-/// One transfer for each slot.
+/// The most transfers: one for each slot of so many disks.
 pub const MOST_TRANSFERS: usize = MOST_TRANSFER_DISKS * MOST_SLOTS as usize;
 
 /// A row of the table of counts: how many transfers go from one source to each destination.

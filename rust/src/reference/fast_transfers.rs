@@ -5,7 +5,7 @@ use super::fast_reader::{self, Parsed};
 use crate::ffi::Transferred;
 use crate::rack::LAST_FILM;
 use crate::refusal::Refusal;
-use crate::transfers::{CountRow, Transfer, ENDS, MOST_TRANSFERS, MOST_TRANSFER_DISKS};
+use crate::transfers::{CountRow, Transfer, ENDS, LOADER, MOST_TRANSFERS, MOST_TRANSFER_DISKS};
 
 /// Finds the transfers from the old text's plan to the new one's, and counts them in the table.
 pub fn transfers(
@@ -87,7 +87,7 @@ impl Found {
             films.sort_unstable();
             for &film in &films {
                 let source = match holders[film as usize] {
-                    0 => 0,
+                    0 => LOADER,
                     disks => disks.trailing_zeros() + 1,
                 };
                 self.place(source, disk as u32 + 1, film);

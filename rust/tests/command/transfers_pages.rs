@@ -1,4 +1,5 @@
-//! Pages of transfers taken back, beside the transfers worked out plainly from the two plans.
+//! Transfers read back from printed pages, compared with those worked out plainly from the two plans, and apart
+//! from the references, which the library is compared with.
 
 use jugfjord::rack::Disk;
 use jugfjord::reference::plan::{Plan, StoredCopy};

@@ -30,7 +30,7 @@ pub fn set_marks(dice: &mut Dice, plan: &mut Plan) {
     }
 }
 
-/// Copies of any films with such viewers.
+/// Copies of any films, with viewers as `disk_viewers` gives them.
 fn disk(dice: &mut Dice, disk: Disk) -> Vec<StoredCopy> {
     let count = dice.within(0, disk.slots.0);
     let viewers = disk_viewers(dice, disk, count);

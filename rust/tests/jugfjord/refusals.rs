@@ -16,7 +16,7 @@ const WORDS: [(u32, u32, &str); 15] = [
     ),
     (5, 7, "demand is outside 0 to 1000000 (refused 5, record 7)"),
     (6, 2, "film is in the list twice (refused 6, record 2)"),
-    (7, 0, "a lent table or rack is too short (refused 7)"),
+    (7, 0, "a lent table, list or rack is too short (refused 7)"),
     (8, 0, "the text has more than 65536 bytes (refused 8)"),
     (
         9,

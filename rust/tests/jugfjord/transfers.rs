@@ -313,7 +313,7 @@ fn tally_transfers([old, new]: &[Plan; 2], transfers: &[Transfer], tally: &mut T
             .filter(|&disk| copy_on(old, disk, t.film()).is_some())
             .count()
     };
-    let films = |copies: &Vec<StoredCopy>| !copies.is_sorted_by_key(|copy| copy.film);
+    let is_unsorted = |copies: &Vec<StoredCopy>| !copies.is_sorted_by_key(|copy| copy.film);
     tally.count_met(&[
         ("film on several old disks", any(&|t| holders(t) > 1)),
         (
@@ -324,7 +324,7 @@ fn tally_transfers([old, new]: &[Plan; 2], transfers: &[Transfer], tally: &mut T
         ("marked copy transferred", any(&|t| made(t).is_held)),
         (
             "films not ascending in the text",
-            new.disks.iter().any(films),
+            new.disks.iter().any(is_unsorted),
         ),
         ("100 transfers or more", transfers.len() >= 100),
     ]);

@@ -149,12 +149,7 @@ pub fn text_pairs() -> [TextPair; 4] {
     let (old, others) = (films(10_000), films(20_000));
     let mut moved = old.clone();
     moved.rotate_right(1);
-    let mut spread = vec![Vec::new(); old.len()];
-    for (disk, films) in old.iter().enumerate() {
-        for (slot, &film) in films.iter().rev().enumerate() {
-            spread[(disk + 1 + slot % 7) % 8].push(film);
-        }
-    }
+    let spread = spread_over_others(&old);
     let pair = |name, new: &[Vec<u32>], left, rounds| TextPair {
         name,
         old: full_text(&old, left),
@@ -165,8 +160,25 @@ pub fn text_pairs() -> [TextPair; 4] {
         pair("every film from the loader", &others, 0, 256),
         pair("every film moves to the next disk", &moved, 0, 64),
         pair("the same, and 1,024 left films", &moved, MOST_RECORDS, 64),
-        pair("every film moves, from each disk to all others", &spread, 0, 65),
+        pair(
+            "every film moves, from each disk to all others",
+            &spread,
+            0,
+            65,
+        ),
     ]
+}
+
+/// The films of each disk on the other disks in turn.
+fn spread_over_others(films: &[Vec<u32>]) -> Vec<Vec<u32>> {
+    let disks = films.len();
+    let mut spread = vec![Vec::new(); disks];
+    for (disk, films) in films.iter().enumerate() {
+        for (slot, &film) in films.iter().rev().enumerate() {
+            spread[(disk + 1 + slot % (disks - 1)) % disks].push(film);
+        }
+    }
+    spread
 }
 
 /// The text of a plan with a copy in each slot of large disks, each with 1,000 viewers, and so many

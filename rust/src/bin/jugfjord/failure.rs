@@ -2,7 +2,8 @@
 
 /// All was done.
 pub const DONE: i32 = 0;
-/// The list cannot be planned, a text is no plan text, or two texts are not of one small rack.
+/// The list cannot be planned, a text is no plan text, or two texts are not of one rack of
+/// up to 8 disks.
 pub const REFUSED: i32 = 1;
 /// It could not be done: usage, input or output.
 pub const NOT_DONE: i32 = 2;

@@ -128,7 +128,8 @@ fn too_many_disks(file: &PlanFile, refusal: Refusal) -> Failure {
     ))
 }
 
-/// The failure of two texts whose first lines differ. They are short, and shown whole.
+/// The failure of two texts whose first lines differ. Both are shown whole: long ones may differ in
+/// their last disk alone.
 fn other_first_line(old: &PlanFile, new: &PlanFile, refusal: Refusal) -> Failure {
     let names = [old, new].map(|file| file.source.name()).join(" and ");
     let lines = [old, new].map(|file| format!("'{}'", shown(file.first_line())));
