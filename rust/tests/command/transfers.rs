@@ -1,5 +1,8 @@
 //! `jugfjord transfers`: whole pages, worked out by hand from document 02.
 
+use jugfjord::transfers::{Transfer, ENDS, MOST_TRANSFERS};
+use jugfjord::wrap;
+
 use crate::folder::{Folder, Ran};
 use crate::terminal::printed_on_terminal;
 
@@ -173,9 +176,22 @@ fn the_example_in_the_formats_is_right() {
     let mut parts = formats.split("```\n");
     let mut part = |first: &str| parts.find(|part| part.starts_with(first)).expect("a part");
     let (old, new) = (part("(rack 2 4 9)\n"), part("(rack 2 4 9)\n"));
+    let table = part("\n| source | destination | film | round |");
     let page = part("4 copies to load");
     assert_ne!(old, new);
     assert_eq!(run(old, new).printed(), page);
+    let mut list = [Transfer::default(); MOST_TRANSFERS];
+    let (old, new) = (old.as_bytes(), new.as_bytes());
+    let found = wrap::transfers(old, new, &mut list, &mut [[0; ENDS]; ENDS]);
+    let rows: Vec<Transfer> = table.lines().filter_map(transfer_in).collect();
+    assert_eq!(list[..found.transfers as usize], rows);
+}
+
+/// The transfer in a row of a table, by its source, destination, film and round.
+fn transfer_in(row: &str) -> Option<Transfer> {
+    let mut cells = row.split('|').skip(1).map(|cell| cell.trim().parse().ok());
+    let mut next = || cells.next().flatten();
+    Some(Transfer::of(next()?, next()?, next()?, next()?))
 }
 
 /// The text of a plan of disks with one slot, by the film of each.
