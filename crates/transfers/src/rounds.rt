@@ -59,7 +59,7 @@ fn next_full(full: u64, round: u64) -> u64
     full
 }
 
-// Makes an end busy in a round, which is known to be where it is the next one.
+// Makes an end busy in a round, and counts the round as known to be busy where it is the next one.
 fn make_busy(busy: &mut [u8], full: &mut [u64], end: usize, round: usize)
     requires { ⌜ (length (now busy) ≡ busyPlaces) × (length (now full) ≡ ends) ⌝ }
     requires { ⌜ (end < ends) × (1 ≤ round) × (round ≤ rowLength) ⌝ }
