@@ -3,9 +3,9 @@ use mathlib.Core.Path.{_≡_, refl, sym, ap, _∙_}
 use mathlib.Core.Bool.{true, false}
 use mathlib.Core.List.{List, [], _∷_}
 use mathlib.Core.Logic.{_⊎_, inl, inr}
-use Prim.Native.Nat.{ℕ, _<_}
+use Prim.Native.Nat.{ℕ, zero, suc, _<_}
 use native.Mathlib.Omega.{arith}
-use lib.ListN.{length, getD}
+use lib.ListN.{length, getD, take}
 use Rattle.placement.specs.Items.{_∶_}
 use Rattle.placement.specs.Copies.{copy}
 use Rattle.placement.specs.Rack.{rackOf}
@@ -14,7 +14,8 @@ use Rattle.placement.proofs.Conjunctions.{false-true}
 use Rattle.transfer_schedule.specs.Stored.{StoredCopy, storedCopy, storedCopies, isStored}
 use Rattle.transfer_schedule.specs.Schedule.{Transfer, transfer}
 use Rattle.transfer_schedule.specs.Fits.{CopyFits}
-use Rattle.transfer_schedule.specs.Words.{hasFilm, StoredAsPlanned, FromLoader, FromLowest, Scheduled}
+use Rattle.transfer_schedule.specs.Words.{hasFilm, StoredAsPlanned, FromLoader, FromLowest, InEarliest, transferAt, Scheduled}
+use Rattle.transfer_schedule.proofs.Alone.{alone}
 use Rattle.transfer_schedule.proofs.Scheduled.{schedule-words}
 
 -- Film 8 is on disks 1 and 2, film 7 on disks 2 and 3. In the new plan film 7 is on disk 1 and stays on disk 2, and disk 3 has films 8 and 9.
@@ -105,12 +106,30 @@ round-busy words = false-true (words .rounds 1 (omega arith) .free)
 pub round-shared : Words sharing → ⊥
 round-shared words = omega (arith, words .alone 1 1)
 
--- ... a later round than the earliest, and more than 2d − 1 rounds, where no end has more than two transfers.
-pub round-late : Words (transfer 2 1 7 1 ∷ transfer 1 3 8 2 ∷ transfer 0 3 9 3 ∷ []) → ⊥
-round-late words = false-true (sym (words .rounds 2 (omega arith) .earliest 1 (omega arith) (omega arith)))
+-- ... the round after the earliest, and more than 2d − 1 rounds, where no end has more than two transfers.
+pub round-late : Words (transfer 2 1 7 1 ∷ transfer 1 3 8 3 ∷ transfer 0 3 9 1 ∷ []) → ⊥
+round-late words = false-true (sym (words .rounds 1 (omega arith) .earliest 2 (omega arith) (omega arith)))
 
 pub rounds-many : Words (transfer 2 1 7 1 ∷ transfer 1 3 8 2 ∷ transfer 0 3 9 4 ∷ []) → ⊥
 rounds-many words = omega (arith, words .few (omega arith))
+
+-- One transfer takes 2d − 1 rounds, so that no smaller number is always kept.
+pub bound-reached : Scheduled [] (storedCopy 1 7 ∷ []) (transfer 0 1 7 1 ∷ [])
+bound-reached =
+    record {
+      copies = refl;
+      number = refl;
+      sources = (inl (record { loader = refl; nowhere = λ disk holds. false-true holds }), tt);
+      rounds = first;
+      within = (omega arith, tt);
+      alone = alone [] (storedCopy 1 7 ∷ []);
+      few = λ some. omega arith;
+      summed = refl;
+    }
+  where
+    first : (i : ℕ) → i < 1 → InEarliest (take i (transfer 0 1 7 1 ∷ [])) (transferAt (transfer 0 1 7 1 ∷ []) i)
+    first zero h = record { from = omega arith; free = refl; earliest = λ round some less. absurd (omega arith) }
+    first (suc i) h = absurd (omega arith)
 
 -- A transfer that the table has no row for is not in its sum.
 pub sum-short : Words (transfer 9 1 7 1 ∷ transfer 1 3 8 2 ∷ transfer 0 3 9 1 ∷ []) → ⊥
