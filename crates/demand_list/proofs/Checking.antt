@@ -8,11 +8,10 @@ use native.Mathlib.Omega.{arith}
 use borrow.Author.Tests.{not-true, not-false, le-leb, lt-leb}
 use lib.Dec.{leb}
 use lib.ListN.{length, getD, set, replicate, length-replicate, length-set}
-use Rattle.placement.specs.Rack.{inRange, mostFilm, mostDemand}
+use Rattle.placement.specs.Rack.{inRange, mostFilm, mostPlanFilm, mostDemand}
 use Rattle.refusal.specs.Verdict.{Verdict, given, refused}
 use Rattle.placement.specs.Records.{number32, recordsJudged}
-use Rattle.placement.proofs.Tests.{inRange-bounds}
-use Rattle.demand_list.proofs.Judging.{earlier, verdictFrom, verdictFrom-all, verdictFrom-end, film-refused, demand-refused, film-repeated, record-passed}
+use Rattle.demand_list.proofs.Judging.{earlier, verdictFrom, verdictFrom-all, verdictFrom-end, film-refused, clip-refused, demand-refused, film-repeated, record-passed}
 use Rattle.demand_list.proofs.Seen.{Marks, marks-none, marks-record, marks-read}
 
 -- The verdict on all records.
@@ -48,8 +47,11 @@ pub record Reading (list : List ℕ) (seen : List Bool) (i film demand : ℕ) : 
 
 module _ {list : List ℕ} {seen : List Bool} {i film demand : ℕ} (r : Reading list seen i film demand) where
   -- The tests on what was read are those of the record.
-  film-test : (b : Bool) → inRange mostFilm film ≡ b → inRange mostFilm (number32 list (8 * i)) ≡ b
-  film-test b e = ap (λ (n : ℕ). inRange mostFilm n) (sym (r .filmIs)) ∙ e
+  film-test : (b : Bool) → inRange mostPlanFilm film ≡ b → inRange mostPlanFilm (number32 list (8 * i)) ≡ b
+  film-test b e = ap (λ (n : ℕ). inRange mostPlanFilm n) (sym (r .filmIs)) ∙ e
+
+  listed-test : (b : Bool) → leb film mostFilm ≡ b → leb (number32 list (8 * i)) mostFilm ≡ b
+  listed-test b e = ap (λ (n : ℕ). leb n mostFilm) (sym (r .filmIs)) ∙ e
 
   demand-test : (b : Bool) → leb demand mostDemand ≡ b → leb (number32 list (8 * i + 4)) mostDemand ≡ b
   demand-test b e = ap (λ (n : ℕ). leb n mostDemand) (sym (r .demandIs)) ∙ e
@@ -58,24 +60,32 @@ module _ {list : List ℕ} {seen : List Bool} {i film demand : ℕ} (r : Reading
   refuses : (number : ℕ) → verdictFrom list i ≡ refused number (suc i) → refused number (i + 1) ≡ judgedRecords list
   refuses number e = ap (λ (n : ℕ). refused number n) (add-one i) ∙ sym (r .checked .verdict ∙ e)
 
-  pub refuses-film : inRange mostFilm film ≡ false → refused 4 (i + 1) ≡ judgedRecords list
+  pub refuses-film : inRange mostPlanFilm film ≡ false → refused 4 (i + 1) ≡ judgedRecords list
   refuses-film e = refuses 4 (film-refused list i (r .here) (film-test false e))
 
-  module _ (filmPassed : inRange mostFilm film ≡ true) where
+  pub refuses-clip : inRange mostPlanFilm film ≡ true → mostFilm < film → refused 16 (i + 1) ≡ judgedRecords list
+  refuses-clip filmPassed h =
+      refuses 16 (clip-refused list i (r .here) (film-test true filmPassed) (listed-test false (lt-leb film mostFilm h)))
+
+  module _ (filmPassed : inRange mostPlanFilm film ≡ true) (filmListed : film ≤ mostFilm) where
+    -- The film is one that a list may hold.
+    listed : leb (number32 list (8 * i)) mostFilm ≡ true
+    listed = listed-test true (le-leb film mostFilm filmListed)
+
     pub refuses-demand : mostDemand < demand → refused 5 (i + 1) ≡ judgedRecords list
     refuses-demand h =
         refuses 5
-        (demand-refused list i (r .here) (film-test true filmPassed) (demand-test false (lt-leb demand mostDemand h)))
+        (demand-refused list i (r .here) (film-test true filmPassed) listed (demand-test false (lt-leb demand mostDemand h)))
 
     -- The film has a place in the table.
     pub film-placed : film < length seen
-    film-placed = omega (arith, inRange-bounds mostFilm film filmPassed .1, r .checked .films)
+    film-placed = omega (arith, filmListed, r .checked .films)
 
     module _ (demandPassed : demand ≤ mostDemand) where
       pub refuses-repeated : getD seen film false ≡ true → refused 6 (i + 1) ≡ judgedRecords list
       refuses-repeated e =
           refuses 6
-          (film-repeated list i (r .here) (film-test true filmPassed) (demand-test true (le-leb demand mostDemand demandPassed))
+          (film-repeated list i (r .here) (film-test true filmPassed) listed (demand-test true (le-leb demand mostDemand demandPassed))
           (not-true _ (marks-read seen list i film true (r .filmIs) (r .checked .marks) e)))
 
       -- A record without a fault is checked, with its film marked.
@@ -83,7 +93,7 @@ module _ {list : List ℕ} {seen : List Bool} {i film demand : ℕ} (r : Reading
       checked-more e = record {
         within = omega (arith, r .here);
         verdict = r .checked .verdict
-            ∙ record-passed list i (r .here) (film-test true filmPassed) (demand-test true (le-leb demand mostDemand demandPassed))
+            ∙ record-passed list i (r .here) (film-test true filmPassed) listed (demand-test true (le-leb demand mostDemand demandPassed))
             (not-false _ (marks-read seen list i film false (r .filmIs) (r .checked .marks) e))
             ∙ ap (λ (k : ℕ). verdictFrom list k) (sym (add-one i));
         marks = marks-record seen list i film (r .filmIs) film-placed (r .checked .marks);

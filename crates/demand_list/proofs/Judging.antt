@@ -7,7 +7,7 @@ use native.Mathlib.Omega.{arith}
 use lib.Dec.{leb, eqb}
 use lib.ListN.{length}
 use Rattle.placement.specs.Items.{Item, occurrences}
-use Rattle.placement.specs.Rack.{inRange, mostFilm, mostDemand}
+use Rattle.placement.specs.Rack.{inRange, mostFilm, mostPlanFilm, mostDemand}
 use Rattle.refusal.specs.Verdict.{Verdict, given, refused, unless}
 use Rattle.placement.specs.Records.{number32, recordAt, recordsFrom, recordsOf, recordCount, recordJudged, recordsJudgedFrom, recordsJudged}
 
@@ -44,42 +44,51 @@ module _ (bytes : List ℕ) (i : ℕ) (here : i < length bytes / 8) where
       more : length bytes / 8 - i ≡ suc (length bytes / 8 - suc i)
       more = omega arith
 
-  -- The verdict by the three tests of record i.
-  byTests : Bool → Bool → Bool → Verdict (Unit {0})
-  byTests film demand new =
-      unless film 4 (suc i) (unless demand 5 (suc i) (unless new 6 (suc i) (verdictFrom bytes (suc i))))
+  -- The verdict by the four tests of record i.
+  byTests : Bool → Bool → Bool → Bool → Verdict (Unit {0})
+  byTests film listed demand new =
+      unless film 4 (suc i)
+      (unless listed 16 (suc i) (unless demand 5 (suc i) (unless new 6 (suc i) (verdictFrom bytes (suc i)))))
 
   verdictFrom-tests :
-      (film demand new : Bool) → inRange mostFilm (number32 bytes (8 * i)) ≡ film
-      → leb (number32 bytes (8 * i + 4)) mostDemand ≡ demand
-      → eqb (occurrences (number32 bytes (8 * i)) (earlier bytes i)) 0 ≡ new → verdictFrom bytes i ≡ byTests film demand new
+      (film listed demand new : Bool) → inRange mostPlanFilm (number32 bytes (8 * i)) ≡ film
+      → leb (number32 bytes (8 * i)) mostFilm ≡ listed → leb (number32 bytes (8 * i + 4)) mostDemand ≡ demand
+      → eqb (occurrences (number32 bytes (8 * i)) (earlier bytes i)) 0 ≡ new → verdictFrom bytes i ≡ byTests film listed demand new
   unfolding byTests
-  verdictFrom-tests film demand new e f g =
+  verdictFrom-tests film listed demand new e f g h =
       verdictFrom-step
-      ∙ ap (λ (b : Bool). byTests b (leb (number32 bytes (8 * i + 4)) mostDemand) (eqb (occurrences (number32 bytes (8 * i)) (earlier bytes i)) 0)) e
-      ∙ ap (λ (b : Bool). byTests film b (eqb (occurrences (number32 bytes (8 * i)) (earlier bytes i)) 0)) f
-      ∙ ap (λ (b : Bool). byTests film demand b) g
+      ∙ ap (λ (b : Bool). byTests b (leb (number32 bytes (8 * i)) mostFilm) (leb (number32 bytes (8 * i + 4)) mostDemand) (eqb (occurrences (number32 bytes (8 * i)) (earlier bytes i)) 0)) e
+      ∙ ap (λ (b : Bool). byTests film b (leb (number32 bytes (8 * i + 4)) mostDemand) (eqb (occurrences (number32 bytes (8 * i)) (earlier bytes i)) 0)) f
+      ∙ ap (λ (b : Bool). byTests film listed b (eqb (occurrences (number32 bytes (8 * i)) (earlier bytes i)) 0)) g
+      ∙ ap (λ (b : Bool). byTests film listed demand b) h
 
   -- A film number out of range is refused.
-  pub film-refused : inRange mostFilm (number32 bytes (8 * i)) ≡ false → verdictFrom bytes i ≡ refused 4 (suc i)
+  pub film-refused : inRange mostPlanFilm (number32 bytes (8 * i)) ≡ false → verdictFrom bytes i ≡ refused 4 (suc i)
   unfolding byTests
-  film-refused e = verdictFrom-tests false _ _ e refl refl
+  film-refused e = verdictFrom-tests false _ _ _ e refl refl refl
 
-  module _ (film : inRange mostFilm (number32 bytes (8 * i)) ≡ true) where
+  -- A service clip is refused.
+  pub clip-refused :
+      inRange mostPlanFilm (number32 bytes (8 * i)) ≡ true → leb (number32 bytes (8 * i)) mostFilm ≡ false
+      → verdictFrom bytes i ≡ refused 16 (suc i)
+  unfolding byTests
+  clip-refused film e = verdictFrom-tests true false _ _ film e refl refl
+
+  module _ (film : inRange mostPlanFilm (number32 bytes (8 * i)) ≡ true) (listed : leb (number32 bytes (8 * i)) mostFilm ≡ true) where
     -- A demand out of range is refused.
     pub demand-refused : leb (number32 bytes (8 * i + 4)) mostDemand ≡ false → verdictFrom bytes i ≡ refused 5 (suc i)
     unfolding byTests
-    demand-refused e = verdictFrom-tests true false _ film e refl
+    demand-refused e = verdictFrom-tests true true false _ film listed e refl
 
     module _ (demand : leb (number32 bytes (8 * i + 4)) mostDemand ≡ true) where
       -- A film that was seen is refused.
       pub film-repeated :
           eqb (occurrences (number32 bytes (8 * i)) (earlier bytes i)) 0 ≡ false → verdictFrom bytes i ≡ refused 6 (suc i)
       unfolding byTests
-      film-repeated e = verdictFrom-tests true true false film demand e
+      film-repeated e = verdictFrom-tests true true true false film listed demand e
 
       -- A record without a fault leaves the verdict to those behind it.
       pub record-passed :
           eqb (occurrences (number32 bytes (8 * i)) (earlier bytes i)) 0 ≡ true → verdictFrom bytes i ≡ verdictFrom bytes (suc i)
       unfolding byTests
-      record-passed e = verdictFrom-tests true true true film demand e
+      record-passed e = verdictFrom-tests true true true true film listed demand e

@@ -1,4 +1,4 @@
-// The list's refusals: 2 and 3 from its shape, then 4, 5 and 6 record by record.
+// The list's refusals: 2 and 3 from its shape, then 4, 16, 5 and 6 record by record.
 use crate::records::judge_records;
 use placement::MOST_RECORDS;
 use refusal::Judgement;

@@ -2,6 +2,7 @@
 use crate::number::number32;
 use placement::MOST_DEMAND;
 use placement::MOST_FILM;
+use placement::MOST_PLAN_FILM;
 use refusal::Judgement;
 use refusal::Refusal;
 ghost use mathlib.Core.Path.{_≡_};
@@ -10,17 +11,17 @@ ghost use Prim.Native.Nat.{_/_, _≤_};
 ghost use lib.ListN.{replicate};
 ghost use Rattle.refusal.specs.Verdict.{given};
 ghost use Rattle.refusal.specs.Numbers.{judged};
-ghost use Rattle.placement.specs.Rack.{inRange, mostFilm, mostRecords};
+ghost use Rattle.placement.specs.Rack.{inRange, mostPlanFilm, mostRecords};
 ghost use Rattle.placement.specs.Records.{recordsJudged};
 
-// Whether a list may hold a film number.
+// Whether a number is a film's.
 fn film_in_range(film: u32) -> bool
-    ensures { λ r. ⌜ r ≡ inRange mostFilm film ⌝ }
+    ensures { λ r. ⌜ r ≡ inRange mostPlanFilm film ⌝ }
 {
     if film < 1 {
         return false;
     }
-    film <= MOST_FILM
+    film <= MOST_PLAN_FILM
 }
 
 // The first fault of the records, in one pass: `seen` has a place for each film, and the films of the records before are marked.
@@ -37,6 +38,9 @@ pub(crate) fn judge_records(list: &[u8], seen: &mut [bool]) -> Judgement
         let position = i as u32 + 1;
         if !film_in_range(film) {
             return Judgement::Refused(Refusal::FilmOutOfRange(position));
+        }
+        if MOST_FILM < film {
+            return Judgement::Refused(Refusal::ServiceClip(position));
         }
         if MOST_DEMAND < demand {
             return Judgement::Refused(Refusal::DemandOutOfRange(position));

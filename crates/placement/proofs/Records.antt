@@ -9,7 +9,7 @@ use lib.ListN.{length}
 use Rattle.refusal.specs.Verdict.{Verdict, given, unless}
 use Rattle.refusal.proofs.Verdicts.{Numbered, unless-given, unless-numbered}
 use Rattle.placement.specs.Items.{Item, occurrences}
-use Rattle.placement.specs.Rack.{inRange, mostFilm, mostDemand, mostRecords}
+use Rattle.placement.specs.Rack.{inRange, mostFilm, mostPlanFilm, mostDemand, mostRecords}
 use Rattle.placement.specs.Records.{recordsFrom, recordCount, recordsOf, shapeJudged, recordJudged, recordsJudgedFrom}
 use Rattle.placement.specs.Promise.{Distinct}
 use Rattle.placement.specs.WellFormed.{Each, Demanded, RecordsAccepted}
@@ -42,12 +42,14 @@ module _ {A : Type 0} where
       → Demanded x × (occurrences (x .film) earlier ≡ 0) × (following ≡ given a)
   record-given earlier position x following a e =
       let new = unless (eqb (occurrences (x .film) earlier) 0) 6 position following in
-      let film = unless-given (inRange mostFilm (x .film)) 4 position (unless (leb (x .amount) mostDemand) 5 position new) a e in
-      let demand = unless-given (leb (x .amount) mostDemand) 5 position new a (film .1) in
+      let fits = unless (leb (x .amount) mostDemand) 5 position new in
+      let film = unless-given (inRange mostPlanFilm (x .film)) 4 position (unless (leb (x .film) mostFilm) 16 position fits) a e in
+      let listed = unless-given (leb (x .film) mostFilm) 16 position fits a (film .1) in
+      let demand = unless-given (leb (x .amount) mostDemand) 5 position new a (listed .1) in
       let seen = unless-given (eqb (occurrences (x .film) earlier) 0) 6 position following a (demand .1) in (
         record {
-          filmLeast = inRange-bounds mostFilm (x .film) (film .0) .0;
-          filmMost = inRange-bounds mostFilm (x .film) (film .0) .1;
+          filmLeast = inRange-bounds mostPlanFilm (x .film) (film .0) .0;
+          filmMost = leb-true (x .film) mostFilm (listed .0);
           amountMost = leb-true (x .amount) mostDemand (demand .0);
         },
         eqb-true (occurrences (x .film) earlier) 0 (seen .0),
@@ -84,7 +86,8 @@ module _ {A : Type 0} where
       → Numbered (recordsJudgedFrom earlier position xs following)
   records-numbered earlier position [] following rest = rest
   records-numbered earlier position (x ∷ xs) following rest =
-      unless-numbered (inRange mostFilm (x .film)) 4 position _ (omega arith)
+      unless-numbered (inRange mostPlanFilm (x .film)) 4 position _ (omega arith)
+      (unless-numbered (leb (x .film) mostFilm) 16 position _ (omega arith)
       (unless-numbered (leb (x .amount) mostDemand) 5 position _ (omega arith)
       (unless-numbered (eqb (occurrences (x .film) earlier) 0) 6 position _ (omega arith)
-      (records-numbered (x ∷ earlier) (suc position) xs following rest)))
+      (records-numbered (x ∷ earlier) (suc position) xs following rest))))

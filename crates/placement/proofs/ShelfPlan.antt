@@ -65,7 +65,7 @@ module _ (rack : List Disk) (records : List Item) (usable : Usable (filling rack
       (each-both Demanded Unwanted films (shelf-each records Demanded (accepted .demanded)) (shelf-unwanted records))
     where
       entry : (x : Item) → Demanded x × Unwanted x → Entry 0 x
-      entry x both = record { filmLeast = both .0 .filmLeast; filmMost = both .0 .filmMost; amountMost = omega (arith, both .1) }
+      entry x both = record { filmLeast = both .0 .filmLeast; filmMost = omega (arith, both .0 .filmMost); amountMost = omega (arith, both .1) }
 
   -- The copies of each disk are accepted.
   pub copies-accepted : disksAccepted rack (shelved rack films laid) ≡ true

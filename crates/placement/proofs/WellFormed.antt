@@ -39,7 +39,7 @@ listOf-entries records accepted =
   where
     entry : (x : Item) → Demanded x → 1 ≤ x .amount → Entry mostDemand x
     entry x demanded some =
-        record { filmLeast = demanded .filmLeast; filmMost = demanded .filmMost; amountMost = demanded .amountMost }
+        record { filmLeast = demanded .filmLeast; filmMost = omega (arith, demanded .filmMost); amountMost = demanded .amountMost }
 
 -- From a list of distinct entries, each disk's copies are accepted,
 pub placement-accepted :

@@ -122,12 +122,12 @@ cases = caseA ∷ caseB ∷ caseC ∷ caseD ∷ caseE ∷ caseF ∷ caseG ∷ ca
 abbrev filled : List Disk → ℕ → ℕ → Row
 filled rack film viewers = row rack (film ∶ viewers ∷ []) (plans viewers 0 0 (film ∶ viewers ∷ []) (1 ∷ []) (none ∷ []))
 
--- N = 64 passes, film 65,535 passes, load 65,535 passes, a demand of 1,000,000 passes (F), and so do 32 slots. The left table goes by film, not by
+-- N = 64 passes, film 49,999 passes, load 65,535 passes, a demand of 1,000,000 passes (F), and so do 32 slots. The left table goes by film, not by
 -- amount. A record in bytes: film 258, demand 66,051.
 abbrev pub edges : List Row
 edges =
     row (rackOf 64 1 1) [] (plans 0 0 0 (replicate 64 none) (replicate 64 0) [])
-    ∷ filled (rackOf 1 1 5) 65535 5
+    ∷ filled (rackOf 1 1 5) 49999 5
     ∷ filled (rackOf 1 1 65535) 7 65535
     ∷ row (rackOf 1 32 9) [] (plans 0 0 0 (replicate 32 none) (0 ∷ []) [])
     ∷ row (rackOf 1 1 1) (9 ∶ 2 ∷ 3 ∶ 5 ∷ 7 ∶ 1 ∷ []) (plans 1 7 2 (7 ∶ 1 ∷ []) (1 ∷ []) (3 ∶ 5 ∷ 9 ∶ 2 ∷ none ∷ []))
@@ -212,7 +212,19 @@ roomRefusals =
     ∷ refusal (rackOf 2 2 5) (bytesOf (7 ∶ 5 ∷ [])) (sevens 4 1 1) 7 0
     ∷ refusal (rackOf 2 2 5) (bytesOf (7 ∶ 5 ∷ 8 ∶ 0 ∷ [])) (sevens 4 2 1) 7 0
     ∷ refusal (rackOf 2 2 5) (bytesOf (0 ∶ 5 ∷ [])) (sevens 4 2 0) 7 0
+    ∷ refusal (rackOf 2 2 5) (bytesOf (50000 ∶ 5 ∷ [])) (sevens 4 2 0) 7 0
     ∷ refusal (disk 4 8 ∷ disk 2 4 ∷ []) [] (sevens 5 2 0) 7 0
+    ∷ []
+
+-- 16, with the record: films 50,000 and 65,535, whatever the demand; film 65,536 is 4, below. The first record with a fault decides.
+abbrev pub clipRefusals : List Row
+clipRefusals =
+    row (rackOf 1 1 5) (50000 ∶ 5 ∷ []) (refuses 16 1)
+    ∷ row (rackOf 1 1 5) (65535 ∶ 5 ∷ []) (refuses 16 1)
+    ∷ row (rackOf 1 1 5) (50000 ∶ 0 ∷ []) (refuses 16 1)
+    ∷ row (rackOf 1 1 5) (50000 ∶ 1000001 ∷ []) (refuses 16 1)
+    ∷ row (rackOf 1 1 5) (5 ∶ 1 ∷ 49999 ∶ 1 ∷ 50000 ∶ 1 ∷ 0 ∶ 1 ∷ []) (refuses 16 3)
+    ∷ row (rackOf 1 1 5) (5 ∶ 1000001 ∷ 50000 ∶ 1 ∷ []) (refuses 5 1)
     ∷ []
 
 -- Record by record: 4, 5, 6 in this order within a record, and the first record with a fault decides.
@@ -232,4 +244,4 @@ recordRefusals =
 
 -- The whole table.
 abbrev pub rows : List Row
-rows = cases ++ (edges ++ (shelves ++ (unequal ++ (rackRefusals ++ (shapeRefusals ++ (roomRefusals ++ recordRefusals))))))
+rows = cases ++ (edges ++ (shelves ++ (unequal ++ (rackRefusals ++ (shapeRefusals ++ (roomRefusals ++ (clipRefusals ++ recordRefusals)))))))

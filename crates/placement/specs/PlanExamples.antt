@@ -34,6 +34,7 @@ formedPlans =
     ∷ small (item 7 5 ∷ item 8 0 ∷ []) (item 1 1 ∷ item 65535 0 ∷ [])
     ∷ plan (rackOf 2 2 5) ((item 7 0 ∷ item 8 0 ∷ []) ∷ (item 7 5 ∷ item 8 0 ∷ []) ∷ []) (item 7 0 ∷ item 8 0 ∷ [])
     ∷ plan (disk 2 4 ∷ disk 1 2 ∷ []) ((item 7 1 ∷ item 8 3 ∷ []) ∷ (item 7 2 ∷ []) ∷ []) []
+    ∷ small (item 50000 3 ∷ item 49999 2 ∷ []) (item 50000 1 ∷ item 65535 0 ∷ [])
     ∷ smallMarked (copy 65535 1 5 ∷ copy 8 0 0 ∷ [])
     ∷ smallMarked (copy 7 0 4 ∷ copy 8 1 0 ∷ [])
     ∷ []

@@ -62,9 +62,9 @@ mostLoad = 65535
 abbrev pub mostRecords : ℕ
 mostRecords = 1024
 
--- The largest film number in a demand list, and the largest in a plan.
+-- The largest film number in a demand list, and the largest in a plan. The numbers between are service clips (02).
 abbrev pub mostFilm : ℕ
-mostFilm = 65535
+mostFilm = 49999
 
 abbrev pub mostPlanFilm : ℕ
 mostPlanFilm = 65535

@@ -5,7 +5,7 @@ use lib.Dec.{leb, eqb}
 use lib.ListN.{length, getD}
 use Rattle.refusal.specs.Verdict.{Verdict, unless}
 use Rattle.placement.specs.Items.{Item, item, occurrences}
-use Rattle.placement.specs.Rack.{inRange, mostFilm, mostDemand, mostRecords}
+use Rattle.placement.specs.Rack.{inRange, mostFilm, mostPlanFilm, mostDemand, mostRecords}
 
 -- 32 bits at a place of the list, least significant byte first.
 abbrev pub number32 : List ℕ → ℕ → ℕ
@@ -34,13 +34,15 @@ abbrev pub shapeJudged : {A : Type 0} → List ℕ → Verdict A → Verdict A
 shapeJudged bytes following =
     unless (eqb (length bytes % 8) 0) 2 0 (unless (leb (recordCount bytes) mostRecords) 3 0 following)
 
--- The tests of one record, at a position from 1: 4, film number; 5, demand; 6, film seen in an earlier record.
+-- The tests of one record, at a position from 1: 4, film number; 16, film number of a service clip (02); 5, demand; 6, film seen in an earlier
+-- record.
 abbrev pub recordJudged : {A : Type 0} → List Item → ℕ → Item → Verdict A → Verdict A
 recordJudged earlier position x following =
-    unless (inRange mostFilm (x .film)) 4 position
+    unless (inRange mostPlanFilm (x .film)) 4 position
+    (unless (leb (x .film) mostFilm) 16 position
     (unless (leb (x .amount) mostDemand) 5 position
     (unless (eqb (occurrences (x .film) earlier) 0) 6 position
-    following))
+    following)))
 
 -- Record by record, from a position on: the first one with a fault is refused. `earlier` are the records before them, last one first.
 abbrev pub recordsJudgedFrom : {A : Type 0} → List Item → ℕ → List Item → Verdict A → Verdict A

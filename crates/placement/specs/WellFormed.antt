@@ -20,7 +20,7 @@ abbrev pub Each : {A : Type 0} → (A → Type 0) → List A → Type 0
 Each P [] = Unit {0}
 Each P (x ∷ xs) = P x × Each P xs
 
--- An accepted record: film 1 to 65,535, demand at most 1,000,000.
+-- An accepted record: film 1 to 49,999, demand at most 1,000,000.
 pub record Demanded (x : Item) : Type 0 where
   pub filmLeast : 1 ≤ x .film
   pub filmMost : x .film ≤ mostFilm

@@ -31,8 +31,8 @@ pub const MOST_STREAMS: u32 = 65_535;
 
 pub const MOST_RECORDS: usize = 1_024;
 
-// The largest film number in a demand list, and the largest in a plan.
-pub const MOST_FILM: u32 = 65_535;
+// The largest film number in a demand list, and the largest in a plan. The numbers between are service clips (document 02).
+pub const MOST_FILM: u32 = 49_999;
 
 pub const MOST_PLAN_FILM: u32 = 65_535;
 

@@ -19,6 +19,7 @@ pub enum Refusal {
     RatioDiffers(u32),
     TooManyDisks,
     FirstLinesDiffer,
+    ServiceClip(u32),
 }
 
 // What a judgement comes to: no refusal applies, or the first that does.
@@ -47,6 +48,7 @@ pub fn number(refusal: Refusal) -> u32
         Refusal::RatioDiffers(_) => 13,
         Refusal::TooManyDisks => 14,
         Refusal::FirstLinesDiffer => 15,
+        Refusal::ServiceClip(_) => 16,
     }
 }
 
@@ -70,5 +72,6 @@ pub fn second(refusal: Refusal) -> u32
         Refusal::RatioDiffers(disk) => disk,
         Refusal::TooManyDisks => 0,
         Refusal::FirstLinesDiffer => 0,
+        Refusal::ServiceClip(position) => position,
     }
 }
