@@ -58,9 +58,12 @@ abbrev marksAre : List String → (a b c d : ℕ) → AfterRow
 marksAre earlier a b c d =
     planned two films earlier 9 0 0 (copy 1 a 2 ∷ copy 2 b 3 ∷ copy 3 c 4 ∷ copy 4 d 0 ∷ []) (2 ∷ 2 ∷ []) (replicate 4 none)
 
--- A list of one wrong film, and one of one film.
+-- A list of one wrong film, one of a service clip, and one of one film.
 abbrev wrongFilm : List ℕ
 wrongFilm = bytesOf (65536 ∶ 1 ∷ [])
+
+abbrev clip : List ℕ
+clip = bytesOf (50000 ∶ 1 ∷ [])
 
 abbrev oneFilm : List ℕ
 oneFilm = bytesOf (9 ∶ 4 ∷ [])
@@ -73,7 +76,7 @@ abbrev accepted : List ℕ
 accepted = textLines ("(rack 1 1 1)" ∷ "(disk 1 (9 1))" ∷ "(left)" ∷ "(served 1 0)" ∷ [])
 
 -- In this order: the same plan, with marks of its own; films on the other disk; films that are left there; copies without viewers, and viewers that differ;
--- fewer disks; more disks of other slots; an empty plan; an empty list; unequal disks; case F, whose film is held on one of its disks. Then the refusals:
+-- fewer disks; more disks of other slots; an empty plan; service clips in the earlier plan; an empty list; unequal disks; case F, whose film is held on one of its disks. Then the refusals:
 -- planning's before those of the text, and the text's own.
 abbrev pub afterRows : List AfterRow
 afterRows =
@@ -84,12 +87,14 @@ afterRows =
     ∷ marksAre ("(rack 1 4 9)" ∷ "(disk 1 (1 1) (2 1) (3 1) (4 1))" ∷ "(left)" ∷ "(served 4 0)" ∷ []) 1 1 0 0
     ∷ marksAre ("(mixed (1 2) (4 8) (1 2))" ∷ "(disk 1 (2 2))" ∷ "(disk 2 (4 1) (1 1))" ∷ "(disk 3 (3 1))" ∷ "(left)" ∷ "(served 5 0)" ∷ []) 0 1 0 1
     ∷ marksAre ("(rack 1 1 1)" ∷ "(disk 1)" ∷ "(left)" ∷ "(served 0 0)" ∷ []) 0 0 0 0
+    ∷ marksAre ("(rack 2 2 5)" ∷ "(disk 1 (50000 2) (2 3))" ∷ "(disk 2 (65535 4 held) (4 0))" ∷ "(left (60000 1))" ∷ "(served 9 1)" ∷ []) 0 1 0 1
     ∷ planned (rackOf 1 2 5) [] ("(rack 1 1 1)" ∷ "(disk 1 (9 1))" ∷ "(left)" ∷ "(served 1 0)" ∷ []) 0 0 0 (unused ∷ unused ∷ []) (0 ∷ []) []
     ∷ planned (disk 1 3 ∷ disk 2 6 ∷ []) (5 ∶ 8 ∷ 6 ∶ 9 ∷ []) ("(rack 2 1 9)" ∷ "(disk 1 (6 1))" ∷ "(disk 2 (5 1))" ∷ "(left)" ∷ "(served 2 0)" ∷ []) 9 8 1
     (copy 5 0 3 ∷ copy 5 1 5 ∷ copy 6 0 1 ∷ []) (1 ∷ 2 ∷ []) (6 ∶ 8 ∷ none ∷ [])
     ∷ planned two (9 ∶ 1000000 ∷ []) ("(rack 1 1 1)" ∷ "(disk 1 (9 1))" ∷ "(left)" ∷ "(served 1 0)" ∷ []) 10 999990 1
     (copy 9 1 5 ∷ unused ∷ copy 9 0 5 ∷ unused ∷ []) (1 ∷ 1 ∷ []) (9 ∶ 999990 ∷ [])
     ∷ refusesAfter two wrongFilm damaged 4 1
+    ∷ refusesAfter two clip damaged 16 1
     ∷ refusesAfter two (0 ∷ []) [] 2 0
     ∷ refusesAfter [] oneFilm damaged 12 0
     ∷ refusesAfter (disk 2 4 ∷ disk 2 5 ∷ []) oneFilm [] 13 2

@@ -9,7 +9,7 @@ use lib.Dec.{leb, eqb}
 use lib.ListN.{length, length-append}
 use Rattle.refusal.specs.Verdict.{Verdict, given, refused, unless}
 use Rattle.placement.specs.Items.{Item, occurrences}
-use Rattle.placement.specs.Rack.{Disk, firstSlots, firstLoad, inRange, disksInRange, sameRatio, allEqual, mostDisks, mostFilm, mostDemand, mostRecords}
+use Rattle.placement.specs.Rack.{Disk, firstSlots, firstLoad, inRange, disksInRange, sameRatio, allEqual, mostDisks, mostFilm, mostPlanFilm, mostDemand, mostRecords}
 use Rattle.placement.specs.Records.{recordCount, recordsJudgedFrom}
 use Rattle.placement.specs.Tables.{Tables, roomFor, ownTables}
 use Rattle.placement.specs.Plan.{Plan, servedOf, unservedOf}
@@ -27,13 +27,13 @@ use Rattle.plan_text.proofs.LongestText.{text-length-unmarked}
 use Rattle.plan_output.specs.Output.{printed, printedFor}
 use Rattle.plan_output.specs.OutputPromise.{mostOutput}
 
--- The number is 1 to 13, and the second number at most that of the last record.
+-- The number is 1 to 16, and the second number at most that of the last record.
 abbrev pub Small : Verdict (Unit {0}) → Type 0
 Small (given u) = Unit {0}
-Small (refused number second) = (1 ≤ number) × (number ≤ 13) × (second ≤ mostRecords)
+Small (refused number second) = (1 ≤ number) × (number ≤ 16) × (second ≤ mostRecords)
 
 small-unless :
-    (test : Bool) (number second : ℕ) (following : Verdict (Unit {0})) → 1 ≤ number → number ≤ 13 → second ≤ mostRecords
+    (test : Bool) (number second : ℕ) (following : Verdict (Unit {0})) → 1 ≤ number → number ≤ 16 → second ≤ mostRecords
     → (test ≡ true → Small following) → Small (unless test number second following)
 small-unless true number second following some few place rest = rest refl
 small-unless false number second following some few place rest = (some, few, place)
@@ -43,10 +43,11 @@ small-records :
     → Small (recordsJudgedFrom earlier position xs (given tt))
 small-records earlier position [] h = tt
 small-records earlier position (x ∷ xs) h =
-    small-unless (inRange mostFilm (x .film)) 4 position _ (omega arith) (omega arith) (omega arith)
-    (λ film. small-unless (leb (x .amount) mostDemand) 5 position _ (omega arith) (omega arith) (omega arith)
+    small-unless (inRange mostPlanFilm (x .film)) 4 position _ (omega arith) (omega arith) (omega arith)
+    (λ film. small-unless (leb (x .film) mostFilm) 16 position _ (omega arith) (omega arith) (omega arith)
+    (λ listed. small-unless (leb (x .amount) mostDemand) 5 position _ (omega arith) (omega arith) (omega arith)
     (λ demand. small-unless (eqb (occurrences (x .film) earlier) 0) 6 position _ (omega arith) (omega arith) (omega arith)
-    (λ new. small-records (x ∷ earlier) (suc position) xs (omega arith))))
+    (λ new. small-records (x ∷ earlier) (suc position) xs (omega arith)))))
 
 small-ratios :
     (slots load position : ℕ) (ds : List Disk) (following : Verdict (Unit {0})) → position + length ds ≤ 1025 → Small following

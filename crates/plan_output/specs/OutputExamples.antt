@@ -2,7 +2,8 @@
 use Prim.Native.Nat.{ℕ}
 use mathlib.Core.List.{List, [], _∷_, _++_}
 use lib.ListN.{replicate}
-use Rattle.placement.specs.Cases.{bytes32, caseA, caseG, caseI}
+use Rattle.placement.specs.Items.{_∶_}
+use Rattle.placement.specs.Cases.{bytes32, bytesOf, caseA, caseG, caseI}
 use Rattle.plan_text.specs.Examples.{textLines, caseAText}
 
 pub record Printing : Type 0 where
@@ -29,4 +30,7 @@ printings =
     (textLines ("(rack 1 4 9)" ∷ "(disk 1 (1 2) (2 3) (4 0))" ∷ "(left)" ∷ "(served 5 0)" ∷ []))
     ∷ printing (inputOf 65 2 5 (7 ∷ [])) (textLines ("(refused 1)" ∷ []))
     ∷ printing (inputOf 1 2 0 []) (textLines ("(refused 1)" ∷ []))
+    ∷ printing (inputOf 1 2 5 (bytesOf (49999 ∶ 4 ∷ [])))
+    (textLines ("(rack 1 2 5)" ∷ "(disk 1 (49999 4))" ∷ "(left)" ∷ "(served 4 0)" ∷ []))
+    ∷ printing (inputOf 1 2 5 (bytesOf (7 ∶ 1 ∷ 50000 ∶ 1 ∷ []))) (textLines ("(refused 16 2)" ∷ []))
     ∷ []

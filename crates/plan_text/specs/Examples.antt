@@ -121,6 +121,7 @@ accepted =
     ∷ plan mixedText 2 9 3 1
     ∷ plan (textLines ("(mixed (32 65504) (1 2047) (31 63457))" ∷ "(disk 1)" ∷ "(disk 2 (7 2047))" ∷ "(disk 3)" ∷ "(left)" ∷ "(served 2047 0)" ∷ [])) 3 2047 0 0
     ∷ plan markedText 2 5 2 1
+    ∷ plan (small ("(disk 1 (50000 3) (49999 2))" ∷ "(left (50000 1) (65535 0))" ∷ "(served 5 1)" ∷ [])) 1 5 1 2
     ∷ plan (textLines ("(mixed (2 4) (4 8))" ∷ "(disk 1 (65535 4 held))" ∷ "(disk 2 (65535 8 held) (1 0 held))" ∷ "(left)" ∷ "(served 12 0)" ∷ [])) 2 12 0 0
     ∷ []
 
