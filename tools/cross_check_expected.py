@@ -37,9 +37,11 @@ def from_to(case, place, low, high):
 
 
 def shuffled(n):
-    n = (n ^ (n << 7)) & 65_535
+    if n >= 1 << 15:
+        return n
+    n = (n ^ (n << 7)) & 32_767
     n ^= n >> 9
-    return (n ^ (n << 8)) & 65_535
+    return (n ^ (n << 8)) & 32_767
 
 
 # Family: most disks, most slots, most load, most records, lowest and highest demand.
@@ -104,9 +106,9 @@ class Case:
         if draw(number, 17, 4) > 0:
             self.unequal(family)
         if family >= 8:
-            self.fault(draw(number, 6, 20), 25)
+            self.fault(draw(number, 6, 21), 25)
         if family == 9:
-            self.fault(draw(number, 7, 20), 26)
+            self.fault(draw(number, 7, 21), 26)
 
     def unequal(self, family):
         """Disks of several sizes: up to so many times the slots and the load, as far as the ranges go."""
@@ -140,11 +142,11 @@ class Case:
 
     def own_film(self, i):
         way = draw(self.number, 12, 4)
-        start = from_to(self.number, 13, 1, 64_000)
+        start = from_to(self.number, 13, 1, 48_900)
         if way == 0:
             return start + i
         if way == 1:
-            return 65_535 - i
+            return 49_999 - i
         return shuffled(start + i)
 
     def film(self, i):
@@ -154,6 +156,8 @@ class Case:
                 film = 0
             elif fault == 11:
                 film = (65_536, 65_541)[draw(self.number, 14, 2)]
+            elif fault == 20:
+                film = (50_000, 65_535)[draw(self.number, 14, 2)]
             elif fault != 12:
                 film = self.own_film(draw(self.number, 15, i))
         return film
@@ -210,6 +214,8 @@ def refusal(rack, data, copies, counts, lefts):
         demand = int.from_bytes(data[at + 4 : at + 8], "little")
         if not 1 <= film <= 65_535:
             return 4
+        if film >= 50_000:
+            return 16
         if demand > 1_000_000:
             return 5
         if film in seen:

@@ -103,6 +103,30 @@ static void plan_of_lists(void)
     expect_number("its left amount", jugfjord_entry_amount(left[0]), 65535);
 }
 
+/* Films at both ends of the service clips, one with a demand of 1,000,001; and a plan text with such films. */
+static void service_clips(void)
+{
+    static const uint8_t last_film[8] = {0x4f, 0xc3, 0, 0, 1, 0, 0, 0};
+    static const uint8_t first_clip[8] = {0x50, 0xc3, 0, 0, 0x41, 0x42, 0x0f, 0};
+    static const uint8_t last_clip[8] = {0xff, 0xff, 0, 0, 0, 0, 0, 0};
+    static const uint8_t clips[] = "(rack 1 2 5)\n(disk 1 (50000 3) (65535 0 held))\n(left (50000 1))\n(served 3 1)\n";
+    struct jugfjord_planned p = jugfjord_plan(one_disk, 1, last_film, 8, copies, 1, counts, 1, left, 1);
+    expect("film 49,999", p.number, p.second, 0, 0);
+    expect_number("its copy", copies[0], jugfjord_entry(49999, 1));
+    p = jugfjord_plan(one_disk, 1, first_clip, 8, copies, 1, counts, 1, left, 1);
+    expect("film 50,000", p.number, p.second, JUGFJORD_REFUSED_SERVICE_CLIP, 1);
+    expect_number("the copy before it", copies[0], jugfjord_entry(49999, 1));
+    p = jugfjord_plan(one_disk, 1, last_clip, 8, copies, 1, counts, 1, left, 1);
+    expect("film 65,535", p.number, p.second, JUGFJORD_REFUSED_SERVICE_CLIP, 1);
+    p = jugfjord_plan_after(one_disk, 1, last_clip, 8, NULL, 0, copies, 1, counts, 1, left, 1);
+    expect("film 65,535 after an empty text", p.number, p.second, JUGFJORD_REFUSED_SERVICE_CLIP, 1);
+    p = jugfjord_plan_after(one_disk, 1, last_film, 8, clips, sizeof clips - 1, copies, 1, counts, 1, left, 1);
+    expect("film 49,999 after a text of service clips", p.number, p.second, 0, 0);
+    struct jugfjord_read_plan j = jugfjord_judge(clips, sizeof clips - 1);
+    expect("judgement of a text of service clips", j.number, j.second, 0, 0);
+    expect_number("its viewers", j.served, 3);
+}
+
 /* The same film in two records, with two left places. */
 static void plan_of_a_repeated_film(void)
 {
@@ -509,6 +533,7 @@ int main(void)
 {
     plan_of_nothing();
     plan_of_lists();
+    service_clips();
     plan_of_a_repeated_film();
     plan_of_shelf_films();
     racks();

@@ -14,7 +14,7 @@ CRATE = ROOT / "crates" / "plan_cases"
 
 
 def refusal(disks, slots, load, data):
-    """01's first refusal of planning, as its numbers, or None."""
+    """The first refusal of planning, by 01 and 02, as its numbers, or None."""
     if not (1 <= disks <= 64 and 1 <= slots <= 32 and 1 <= load <= 65535):
         return (1,)
     if len(data) % 8 != 0:
@@ -25,6 +25,8 @@ def refusal(disks, slots, load, data):
     for position, (film, demand) in enumerate(struct.iter_unpack("<II", data), 1):
         if not 1 <= film <= 65535:
             return (4, position)
+        if film >= 50000:
+            return (16, position)
         if demand > 1000000:
             return (5, position)
         if film in seen:
@@ -77,7 +79,7 @@ FILES = {
     "case_h": bytes_of(1, 1, 5, (7, 5), (2, 5)),
     "case_i": bytes_of(1, 1, 5, (5, 3), (5, 3)),
     "disks_0": bytes_of(0, 1, 1),
-    "disks_64": bytes_of(64, 32, 65535, (65535, 1000000), (1, 1)),
+    "disks_64": bytes_of(64, 32, 65535, (49999, 1000000), (1, 1)),
     "disks_65": bytes_of(65, 1, 1),
     "slots_0": bytes_of(1, 0, 1),
     "slots_33": bytes_of(1, 33, 1),
@@ -89,6 +91,12 @@ FILES = {
     "film_0": bytes_of(1, 1, 1, (1, 1), (0, 1)),
     "film_65536": bytes_of(1, 1, 1, (65536, 1)),
     "film_65541": bytes_of(1, 1, 1, (5, 1), (65541, 1)),
+    "film_49999": bytes_of(1, 1, 5, (49999, 5)),
+    "film_50000": bytes_of(1, 1, 1, (50000, 1)),
+    "film_65535": bytes_of(1, 1, 1, (5, 1), (65535, 1)),
+    "clip_before_demand": bytes_of(1, 1, 1, (50000, 1000001)),
+    "clip_demand_0": bytes_of(1, 1, 1, (60000, 0), (60000, 0)),
+    "clip_after_fault": bytes_of(1, 1, 1, (49999, 1), (49999, 1), (50000, 1)),
     "demand_1000001": bytes_of(1, 1, 1, (1, 0), (2, 1000000), (3, 1000001)),
     "film_before_demand": bytes_of(1, 1, 1, (0, 1000001)),
     "first_fault": bytes_of(1, 1, 1, (1, 1000001), (0, 1)),
@@ -102,7 +110,7 @@ FILES = {
     "shelf_alone": bytes_of(2, 1, 5, (3, 0), (1, 0), (2, 0)),
     "shelf_one_slot": bytes_of(1, 1, 5, (8, 0), (6, 0), (4, 0)),
     "shelf_left_by_film": bytes_of(1, 1, 1, (9, 2), (5, 0), (3, 5), (7, 1)),
-    "shelf_ten_films": bytes_of(3, 3, 5, (40, 0), (21, 2), (7, 0), (65535, 0), (12, 0), (1, 0), (22, 3), (30, 0), (25, 0), (9, 0),
+    "shelf_ten_films": bytes_of(3, 3, 5, (40, 0), (21, 2), (7, 0), (49999, 0), (12, 0), (1, 0), (22, 3), (30, 0), (25, 0), (9, 0),
                                 (20, 5), (50, 0), (3, 0)),
     "bytes_0": b"",
     "bytes_11": bytes_of(1, 1, 1)[:11],
@@ -126,6 +134,12 @@ PRINTED = {
     "case_i": "(refused 6 2)\n",
     "disks_65": "(refused 1)\n",
     "film_65536": "(refused 4 1)\n",
+    "film_49999": "(rack 1 1 5)\n(disk 1 (49999 5))\n(left)\n(served 5 0)\n",
+    "film_50000": "(refused 16 1)\n",
+    "film_65535": "(refused 16 2)\n",
+    "clip_before_demand": "(refused 16 1)\n",
+    "clip_demand_0": "(refused 16 1)\n",
+    "clip_after_fault": "(refused 6 2)\n",
     "demand_1000001": "(refused 5 3)\n",
     "bytes_11": "(refused 2)\n",
     "shelf_left": "(rack 1 1 5)\n(disk 1 (7 5))\n(left (2 0))\n(served 5 0)\n",
@@ -135,7 +149,7 @@ PRINTED = {
     "shelf_one_slot": "(rack 1 1 5)\n(disk 1 (4 0))\n(left (6 0) (8 0))\n(served 0 0)\n",
     "shelf_left_by_film": "(rack 1 1 1)\n(disk 1 (7 1))\n(left (3 5) (5 0) (9 2))\n(served 1 7)\n",
     "shelf_ten_films": "(rack 3 3 5)\n(disk 1 (21 2) (22 3) (1 0))\n(disk 2 (20 5) (3 0) (7 0))\n(disk 3 (9 0) (12 0) (25 0))\n"
-                       "(left (30 0) (40 0) (50 0) (65535 0))\n(served 10 0)\n",
+                       "(left (30 0) (40 0) (50 0) (49999 0))\n(served 10 0)\n",
 }
 
 

@@ -11,7 +11,7 @@ use crate::draw::from_to;
 
 // The film number of record i before faults.
 fn own_film(number: u64, i: u32) -> u32 {
-    film(draw(number, 12, 4), from_to(number, 13, 1, 64_000), i)
+    film(draw(number, 12, 4), from_to(number, 13, 1, 48_900), i)
 }
 
 // A film number above 65,535: the first, or one that is film 5 in 16 bits.
@@ -23,12 +23,22 @@ fn too_large(number: u64) -> u32 {
     }
 }
 
-// The film number of record i with a fault of it: film 0, a film that is too large, or an earlier one.
+// The film number of a service clip: the first, or the last.
+fn clip(number: u64) -> u32 {
+    if draw(number, 14, 2) == 0 {
+        50_000
+    } else {
+        65_535
+    }
+}
+
+// The film number of record i with a fault of it: film 0, a film that is too large, an earlier one, or a service clip.
 fn with_fault(number: u64, fault: u32, i: u32, film: u32) -> u32 {
     match fault {
         10 => 0,
         11 => too_large(number),
         13 | 14 => own_film(number, draw(number, 15, i)),
+        20 => clip(number),
         _ => film,
     }
 }

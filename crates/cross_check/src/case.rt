@@ -143,7 +143,7 @@ pub(crate) fn folds(number: u64) -> u32 {
 }
 
 // How many faults there are, which is also the number of none.
-pub(crate) const FAULTS: u32 = 20;
+pub(crate) const FAULTS: u32 = 21;
 
 // The first fault of a case of families 8 and 9, or none.
 pub(crate) fn first_fault(number: u64) -> u32 {
@@ -164,7 +164,7 @@ pub(crate) fn second_fault(number: u64) -> u32 {
 }
 
 // The case with a fault of the number of disks, of the list's length or of the tables; 2 to 5 and 15 to 19 are faults of a disk,
-// 10 to 14 of a record.
+// 10 to 14 and 20 of a record.
 fn with_fault(mut c: Case, fault: u32) -> Case {
     match fault {
         0 => c.disks = 0,

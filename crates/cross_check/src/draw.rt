@@ -34,19 +34,22 @@ pub(crate) fn from_to(case: u64, place: u64, low: u32, high: u32) -> u32 {
     }
 }
 
-// A film number for place i of a list, no two alike below 1,100: upwards from a start, downwards from 65,535, or shuffled.
+// A film number for place i of a list, no two alike below 1,100: upwards from a start, downwards from 49,999, or shuffled.
 pub(crate) fn film(way: u32, start: u32, i: u32) -> u32 {
     let n = std::num::wrapping_add_u32(start, i);
     match way {
         0 => n,
-        1 => std::num::wrapping_sub_u32(65_535, i),
+        1 => std::num::wrapping_sub_u32(49_999, i),
         _ => shuffled(n),
     }
 }
 
-// A permutation of the numbers of 16 bits that keeps 0.
+// A permutation of the numbers of 15 bits that keeps 0. A larger number stays.
 fn shuffled(n: u32) -> u32 {
-    let a = (n ^ (n << 7)) & 65_535;
+    if n > 32_767 {
+        return n;
+    }
+    let a = (n ^ (n << 7)) & 32_767;
     let b = a ^ (a >> 9);
-    (b ^ (b << 8)) & 65_535
+    (b ^ (b << 8)) & 32_767
 }

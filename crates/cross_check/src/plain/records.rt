@@ -1,4 +1,4 @@
-// The records of a list, and planning's refusals 4, 5 and 6.
+// The records of a list, and planning's refusals 4, 16, 5 and 6.
 use crate::plain::Outcome;
 use crate::plain::memory::at;
 use crate::plain::memory::film_of;
@@ -38,6 +38,9 @@ fn record_refusal(m: &[u64], i: usize, entry: u64) -> u32 {
     }
     if film > 65_535 {
         return 4;
+    }
+    if film > 49_999 {
+        return 16;
     }
     if number_of(entry) > 1_000_000 {
         return 5;
