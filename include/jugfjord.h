@@ -49,9 +49,9 @@
 extern "C" {
 #endif
 
-#define JUGFJORD_VERSION "0.6.0"
+#define JUGFJORD_VERSION "0.7.0"
 #define JUGFJORD_VERSION_MAJOR 0
-#define JUGFJORD_VERSION_MINOR 6
+#define JUGFJORD_VERSION_MINOR 7
 #define JUGFJORD_VERSION_PATCH 0
 
 #define JUGFJORD_MOST_COPIES 2048 /* the slots of all disks */
@@ -61,7 +61,7 @@ extern "C" {
 #define JUGFJORD_MOST_TRANSFERS 256 /* the slots of 8 disks */
 #define JUGFJORD_ENDS 9             /* the loader, number 0, and 8 disks */
 
-/* The refusals. `second` is the record for 4, 5 and 6, the line for 9 and the disk for 13, each from 1; 0 for the others. */
+/* The refusals. `second` is the record for 4, 5, 6 and 16, the line for 9 and the disk for 13, each from 1; 0 for the others. */
 #define JUGFJORD_REFUSED_RACK_OUT_OF_RANGE 1   /* of the program `plan` alone, in the place of 12; no function here gives it */
 #define JUGFJORD_REFUSED_LIST_LENGTH 2         /* list length no multiple of 8 */
 #define JUGFJORD_REFUSED_TOO_MANY_RECORDS 3    /* more than 1,024 records */
@@ -77,6 +77,7 @@ extern "C" {
 #define JUGFJORD_REFUSED_RATIO_DIFFERS 13      /* the first disk whose ratio of streams to slots is not that of disk 1 */
 #define JUGFJORD_REFUSED_TOO_MANY_DISKS 14     /* more than 8 disks in either text; given by jugfjord_transfers only */
 #define JUGFJORD_REFUSED_FIRST_LINES_DIFFER 15 /* the first lines of the two texts differ; given by jugfjord_transfers only */
+#define JUGFJORD_REFUSED_SERVICE_CLIP 16       /* film number 50,000 to 65,535 in a list; plan texts may have it */
 
 /* The entry of a film with its viewers or its amount, without a mark. The film is at most 65,535: as a copy, 65,544 would be
  * film 8 with mark 1. */
@@ -137,8 +138,9 @@ struct jugfjord_planned {
 
 /* Plans by the sliding-window method. `list` has eight bytes a record: film number, then demand, each 32 bits, least
  * significant byte first; list_count is in bytes. The tables need a copy place for each slot of the rack, a count for each disk
- * and a left place for each record. Refusals 12, 13 with the disk, 2, 3, 7, then record by record 4, 5, 6 with the record.
- * Less than 80 KiB of stack. */
+ * and a left place for each record. A list has films 1 to 49,999: the numbers above are service clips, which racks play from their
+ * own memory. Refusals 12, 13 with the disk, 2, 3, 7, then record by record 4, 16, 5, 6 with the record. Less than 80 KiB of
+ * stack. */
 struct jugfjord_planned jugfjord_plan(const struct jugfjord_disk *rack, size_t rack_count,
                                       const uint8_t *list, size_t list_count,
                                       uint64_t *copies, size_t copies_count,

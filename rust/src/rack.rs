@@ -1,10 +1,13 @@
-//! Disks and racks, and the limits of document 01.
+//! Disks and racks, and the limits of documents 01 and 02.
 
 pub const MOST_DISKS: u32 = 64;
 pub const MOST_SLOTS: u32 = 32;
 pub const MOST_STREAMS: u32 = 65_535;
 pub const MOST_RECORDS: usize = 1_024;
+/// The last film that a plan may have.
 pub const LAST_FILM: u32 = 65_535;
+/// The last film that a demand list may hold. The films above it are service clips.
+pub const LAST_LISTED_FILM: u32 = 49_999;
 pub const MOST_DEMAND: u32 = 1_000_000;
 /// The longest text that reading looks at, in bytes.
 pub const MOST_BYTES: usize = 65_536;

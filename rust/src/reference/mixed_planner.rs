@@ -7,7 +7,7 @@ use std::ops::Range;
 
 use super::plan::{judge_rack, viewers, Pair, Plan, StoredCopy};
 use crate::ffi::Planned;
-use crate::rack::{Disk, LAST_FILM, MOST_DEMAND, MOST_RECORDS, RECORD};
+use crate::rack::{Disk, LAST_FILM, LAST_LISTED_FILM, MOST_DEMAND, MOST_RECORDS, RECORD};
 use crate::refusal::Refusal;
 use crate::tables::{Entry, LentTables};
 
@@ -55,6 +55,7 @@ pub fn judge(rack: &[Disk], list: &[u8], tables: &LentTables) -> Result<Vec<Pair
         match (film, demand) {
             (0, _) => return refuse(4),
             _ if film > LAST_FILM => return refuse(4),
+            _ if film > LAST_LISTED_FILM => return refuse(16),
             _ if demand > MOST_DEMAND => return refuse(5),
             _ if !seen.insert(film) => return refuse(6),
             _ => {}

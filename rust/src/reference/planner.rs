@@ -1,12 +1,12 @@
 //! A plain planner for racks of equal disks by their three numbers, as the program `plan` takes
-//! them: sentence by sentence from document 01, and from document 02 for shelf copies. It sums
-//! every window anew.
+//! them: sentence by sentence from document 01, and from document 02 for shelf copies and service
+//! clips. It sums every window anew.
 
 use std::ops::Range;
 
 use super::plan::{Pair, Plan, StoredCopy};
 use crate::ffi::Planned;
-use crate::rack::{Rack, LAST_FILM, MOST_DEMAND, MOST_RECORDS, RECORD};
+use crate::rack::{Rack, LAST_FILM, LAST_LISTED_FILM, MOST_DEMAND, MOST_RECORDS, RECORD};
 use crate::refusal::Refusal;
 use crate::tables::{Entry, LentTables};
 
@@ -67,6 +67,8 @@ fn number(bytes: &[u8]) -> u32 {
 fn fault((film, demand): Pair, earlier: &[Pair]) -> Option<u32> {
     if film == 0 || film > LAST_FILM {
         Some(4)
+    } else if film > LAST_LISTED_FILM {
+        Some(16)
     } else if demand > MOST_DEMAND {
         Some(5)
     } else if earlier.iter().any(|&(seen, _)| seen == film) {

@@ -129,7 +129,7 @@ fn unequal_disks_are_marked_by_number() {
 #[test]
 fn the_largest_rack_after_itself_is_all_held() {
     let disks: Vec<Disk> = rack(64, 32, 65_535).entries();
-    let films: Vec<(u32, u32)> = (0..1_024).map(|at| (64_000 + at, 2_047)).collect();
+    let films: Vec<(u32, u32)> = (0..1_024).map(|at| (48_976 + at, 2_047)).collect();
     let lines = films
         .iter()
         .map(|(film, demand)| format!("{film} {demand}\n"));

@@ -70,7 +70,7 @@ fn an_earlier_plan_of_more_than_65_536_bytes_is_refused_8() {
 }
 
 /// Lists that planning refuses, and what is said of them.
-const REFUSED_LISTS: [(&str, &str); 6] = [
+const REFUSED_LISTS: [(&str, &str); 7] = [
     (
         "rack 0 2 40\n",
         ":1: disks 0 is outside 1 to 64 (refused 1)",
@@ -86,6 +86,10 @@ const REFUSED_LISTS: [(&str, &str); 6] = [
     (
         "rack 2 2 40\n0 5\n",
         ":2: film number 0 is outside 1 to 65535 (refused 4, record 1)",
+    ),
+    (
+        "rack 2 2 40\n50000 5\n",
+        ":2: film number 50000 is above 49999, a service clip (refused 16, record 1)",
     ),
     (
         "rack 2 2 40\n1 1000001\n",

@@ -45,7 +45,7 @@ fn a_list_file_and_its_records_have_the_plan_of_the_reference() {
 fn a_list_file_of_disks_has_the_plan_of_the_reference() {
     let mut dice = Dice::new(13);
     let folder = Folder::new();
-    let mut met = [0; 14];
+    let mut met = [0; 17];
     for turn in 0..LISTS {
         let mut rack = [mixed, mixed, equal][turn % 3](&mut dice);
         let list = random_list(&mut dice, &rack);
@@ -65,8 +65,8 @@ fn a_list_file_of_disks_has_the_plan_of_the_reference() {
         compare(&folder.run(&["plan", "list.txt"]), &expected);
         compare_records(&folder.run(&["records", "list.txt"]), &rack, &list);
     }
-    let met = [met[0], met[12], met[13]];
-    assert!(met.iter().all(|&met| met > 10), "{met:?}");
+    let met = [met[0], met[12], met[13], met[16]];
+    assert!(met.iter().all(|&met| met > 5), "{met:?}");
 }
 
 /// Asserts that a run printed the records of equal disks, or failed.

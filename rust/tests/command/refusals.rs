@@ -5,7 +5,7 @@ use jugfjord::rack::MOST_RECORDS;
 use crate::folder::{plan_input, rack, reference_text, Folder};
 
 /// List files that planning refuses, and what is said of them behind the file's name.
-const REFUSED: [(&str, &str); 14] = [
+const REFUSED: [(&str, &str); 17] = [
     ("rack 0 2 40\n", "1: disks 0 is outside 1 to 64 (refused 1)"),
     ("# x\nrack 65 2 40\n", "2: disks 65 is outside 1 to 64 (refused 1)"),
     ("rack 2 33 40\n", "1: slots 33 is outside 1 to 32 (refused 1)"),
@@ -16,8 +16,16 @@ const REFUSED: [(&str, &str); 14] = [
     ),
     ("rack 2 2 40\n0 5\n", "2: film number 0 is outside 1 to 65535 (refused 4, record 1)"),
     (
-        "rack 2 2 40\n65535 5\n# x\n\n65536 5\n",
+        "rack 2 2 40\n49999 5\n# x\n\n65536 5\n",
         "5: film number 65536 is outside 1 to 65535 (refused 4, record 2)",
+    ),
+    (
+        "rack 2 2 40\n49999 5\n# x\n\n50000 5\n",
+        "5: film number 50000 is above 49999, a service clip (refused 16, record 2)",
+    ),
+    (
+        "rack 2 2 40\n65535 0\n",
+        "2: film number 65535 is above 49999, a service clip (refused 16, record 1)",
     ),
     ("rack 2 2 40\n1 1000001", "2: demand 1000001 is outside 0 to 1000000 (refused 5, record 1)"),
     (
@@ -35,6 +43,10 @@ const REFUSED: [(&str, &str); 14] = [
     // The first record at fault, and in it the first fault.
     ("rack 2 2 40\n1 1\n1 1\n0 1\n", "3: film 1 is in the list twice (refused 6, record 2), first in line 2"),
     ("rack 2 2 40\n1 1\n70000 1000001\n", "3: film number 70000 is outside 1 to 65535 (refused 4, record 2)"),
+    (
+        "rack 2 2 40\n1 1\n60000 1000001\n",
+        "3: film number 60000 is above 49999, a service clip (refused 16, record 2)",
+    ),
     ("rack 2 2 40\n1 1\n1 1000001\n", "3: demand 1000001 is outside 0 to 1000000 (refused 5, record 2)"),
 ];
 
@@ -176,6 +188,10 @@ fn a_refused_record_is_named_without_a_line() {
         (
             input(&[(1, 1), (0, 1)]),
             "film number 0 is outside 1 to 65535 (refused 4, record 2)",
+        ),
+        (
+            input(&[(1, 1), (2, 1), (50_000, 1)]),
+            "film number 50000 is above 49999, a service clip (refused 16, record 3)",
         ),
         (
             input(&[(1, 1_000_001)]),

@@ -1,7 +1,7 @@
 //! Random lists with the texts of earlier plans, through all planners that take one.
 
 use jugfjord::ffi::Planned;
-use jugfjord::rack::places;
+use jugfjord::rack::{places, LAST_LISTED_FILM};
 use jugfjord::reference::plan::StoredCopy;
 use jugfjord::reference::{mixed_planner, reader};
 use jugfjord::tables::TablesView;
@@ -67,6 +67,7 @@ fn run(mut dice: Dice, racks: Racks, tally: &mut Tally) {
         ("fewer disks earlier", 5_000),
         ("more disks earlier", 5_000),
         ("same rack earlier", 10_000),
+        ("service clips in the earlier text", 2_000),
         ("wrong text behind a refusal of planning", 2_000),
         ("refused 2", 1_000),
         ("refused 3", 1_000),
@@ -78,6 +79,7 @@ fn run(mut dice: Dice, racks: Racks, tally: &mut Tally) {
         ("refused 9", 5_000),
         ("refused 12", 2_000),
         ("refused 13", 500),
+        ("refused 16", 1_000),
     ];
     least.extend(EARLIER.map(|(name, _)| (name, 5_000)));
     least.extend(TEXTS.map(|name| (name, 1_000)));
@@ -168,6 +170,7 @@ fn tally_marks(call: &Call, after: &TablesView, tally: &mut Tally) {
     };
     let earlier = reader::plan_of(&call.earlier).expect("an accepted text");
     let is_held = |copies: &Vec<StoredCopy>| copies.iter().any(|copy| copy.is_held);
+    let is_clip = |copy: &StoredCopy| copy.film > LAST_LISTED_FILM;
     tally.count_met(&[
         ("shelf copies marked", shelf_with(1)),
         ("shelf copies not marked", shelf_with(0)),
@@ -178,5 +181,9 @@ fn tally_marks(call: &Call, after: &TablesView, tally: &mut Tally) {
         ("fewer disks earlier", earlier.rack.len() < rack.len()),
         ("more disks earlier", earlier.rack.len() > rack.len()),
         ("same rack earlier", earlier.rack == *rack),
+        (
+            "service clips in the earlier text",
+            earlier.disks.iter().flatten().any(is_clip),
+        ),
     ]);
 }

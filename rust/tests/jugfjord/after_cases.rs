@@ -218,6 +218,7 @@ fn every_refusal_of_planning_comes_before_those_of_the_earlier_text() {
     expect(&rack, &[1; 8 * 1_025], 12, 3, 0);
     expect(&rack, &list, 11, 7, 0);
     expect(&rack, &records(&[(1, 1), (65_536, 1)]), 12, 4, 2);
+    expect(&rack, &records(&[(1, 1), (50_000, 1)]), 12, 16, 2);
     expect(&rack, &records(&[(1, 1_000_001)]), 12, 5, 1);
     expect(&rack, &records(&[(5, 3), (5, 3)]), 12, 6, 2);
 }

@@ -30,11 +30,35 @@ fn disks_64_pass_and_65_do_not() {
 }
 
 #[test]
-fn film_65535_passes_and_65536_does_not() {
-    expect_accepted(&rack_of(1), &[(65_535, 1)]);
+fn film_49999_passes_and_50000_is_a_service_clip() {
+    expect_accepted(&rack_of(1), &[(49_999, 1)]);
+    expect_refused(&rack_of(1), &[(1, 1), (50_000, 1)], 16, 2);
+    expect_refused(&rack_of(1), &[(50_000, 0)], 16, 1);
+    expect_refused(&rack_of(1), &[(50_000, 1_000_001)], 16, 1);
+    expect_refused(&rack_of(1), &[(60_000, 1), (60_000, 1)], 16, 1);
+    // An earlier record at fault comes first, and so does the first of two at fault.
+    expect_refused(&rack_of(1), &[(1, 1_000_001), (50_000, 1)], 5, 1);
+    expect_refused(&rack_of(1), &[(50_000, 1), (0, 1)], 16, 1);
+}
+
+#[test]
+fn film_65535_is_a_service_clip_and_65536_is_no_film() {
+    expect_refused(&rack_of(1), &[(65_535, 1)], 16, 1);
     expect_refused(&rack_of(1), &[(1, 1), (65_536, 1)], 4, 2);
     expect_refused(&rack_of(1), &[(65_541, 1)], 4, 1);
     expect_refused(&rack_of(1), &[(0, 1)], 4, 1);
+}
+
+#[test]
+fn texts_keep_their_films_up_to_65535() {
+    let text = "(rack 1 2 5)\n(disk 1 (50000 3 held) (49999 2))\n(left (50000 1) (65535 0))\n(served 5 1)\n";
+    for (name, read) in answers(text) {
+        assert_eq!((read.number, read.served, read.left), (0, 5, 2), "{name}");
+    }
+    for film in [50_000, 65_535] {
+        let copy = [Entry::new(film, 4), Entry::default()];
+        expect_written(copy, Entry::new(film, 1), 0);
+    }
 }
 
 #[test]

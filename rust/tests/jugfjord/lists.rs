@@ -1,6 +1,8 @@
 //! Random demand lists, right and wrong.
 
-use jugfjord::rack::{records, Disk, LAST_FILM, MOST_DEMAND, MOST_RECORDS, RECORD};
+use jugfjord::rack::{
+    records, Disk, LAST_FILM, LAST_LISTED_FILM, MOST_DEMAND, MOST_RECORDS, RECORD,
+};
 use jugfjord::reference::plan::Pair;
 
 use crate::dice::Dice;
@@ -22,12 +24,13 @@ pub fn demands(list: &[u8]) -> Vec<Pair> {
     list.chunks(RECORD).map(pair).collect()
 }
 
-/// So many distinct film numbers in no order.
-pub fn films(dice: &mut Dice, count: usize) -> Vec<u32> {
-    // Steps that share no factor with 65,535 come back to a number after all others.
+/// So many distinct film numbers up to the last one, which is that of a list or of a plan, in no
+/// order.
+pub fn films(dice: &mut Dice, count: usize, last: u32) -> Vec<u32> {
+    // Steps that share no factor with 49,999 or 65,535 come back to a number after all others.
     let step = dice.pick(&[1, 2, 7, 64, 1_021]) as usize;
-    let start = dice.below(LAST_FILM as usize);
-    let film = |at: usize| ((start + at * step) % LAST_FILM as usize) as u32 + 1;
+    let start = dice.below(last as usize);
+    let film = |at: usize| ((start + at * step) % last as usize) as u32 + 1;
     let mut films: Vec<u32> = (0..count).map(film).collect();
     dice.shuffle(&mut films);
     films
@@ -115,7 +118,8 @@ pub fn good(dice: &mut Dice, rack: Vec<Disk>, kind: Demands) -> (Case, Need) {
     };
     let mut demands = kind(dice, &rack, count);
     set_to_zero(dice, &mut demands);
-    let list: Vec<_> = films(dice, count).into_iter().zip(demands).collect();
+    let films = films(dice, count, LAST_LISTED_FILM).into_iter();
+    let list: Vec<_> = films.zip(demands).collect();
     let need = Need::new(&rack, count);
     let case = Case {
         rack,
@@ -128,7 +132,7 @@ pub fn good(dice: &mut Dice, rack: Vec<Disk>, kind: Demands) -> (Case, Need) {
 /// Does one wrong thing to a case. Some do nothing to an empty list.
 type Fault = fn(&mut Dice, &mut Case, Need);
 
-pub const FAULTS: [(&str, Fault); 6] = [
+pub const FAULTS: [(&str, Fault); 7] = [
     ("part of a record", |dice, case, _| {
         let len = case.list.len() + dice.below(7) + 1;
         case.list.resize(len, 1);
@@ -142,6 +146,11 @@ pub const FAULTS: [(&str, Fault); 6] = [
     }),
     ("film out of range", |dice, case, _| {
         let wrong = dice.pick(&[0, LAST_FILM + 1, LAST_FILM + 6, 1 << 31, u32::MAX]);
+        change(dice, case, 0, wrong);
+    }),
+    ("service clip", |dice, case, _| {
+        let any = dice.within(LAST_LISTED_FILM + 1, LAST_FILM);
+        let wrong = dice.pick(&[LAST_LISTED_FILM + 1, LAST_FILM, any]);
         change(dice, case, 0, wrong);
     }),
     ("demand out of range", |dice, case, _| {

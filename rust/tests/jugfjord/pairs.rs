@@ -1,7 +1,7 @@
 //! Random pairs of an old and a new plan of one rack, whose films overlap in many ways, and pairs of
 //! racks that differ.
 
-use jugfjord::rack::{Disk, MOST_STREAMS};
+use jugfjord::rack::{Disk, LAST_FILM, MOST_STREAMS};
 use jugfjord::reference::plan::{judge_rack, Plan};
 
 use crate::dice::Dice;
@@ -92,7 +92,7 @@ impl PlanPair {
         let rack = some_rack(dice, racks);
         let slots: u32 = rack.iter().map(|disk| disk.slots.0).sum();
         let most = dice.pick(&[2, slots / 2 + 2, slots + 2, 3 * slots + 2]);
-        let pool = films(dice, most as usize);
+        let pool = films(dice, most as usize, LAST_FILM);
         let old = drawn(dice, &rack, &pool);
         let (renewal, renew) = dice.pick(&RENEWALS);
         let new = renew(dice, &rack, &old, &pool);

@@ -1,7 +1,7 @@
 //! Random lists on equal and unequal disks through all planners.
 
 use jugfjord::ffi::Planned;
-use jugfjord::rack::{places, RECORD};
+use jugfjord::rack::{places, LAST_LISTED_FILM, MOST_DEMAND, RECORD};
 use jugfjord::reference::planner;
 use jugfjord::tables::{Entry, TablesView};
 
@@ -42,6 +42,9 @@ fn run(mut dice: Dice, racks: Racks, tally: &mut Tally) {
         let case = random_case(&mut dice, racks, tally);
         let (planned, after) = compare(&case, tally);
         tally.answer(planned.number);
+        if planned.number == 16 {
+            tally_clip(&case, &planned, tally);
+        }
         if planned.number == 0 {
             tally_rack(&case.rack, tally);
             tally_shape(&case, &planned, &after, tally);
@@ -57,6 +60,9 @@ fn run(mut dice: Dice, racks: Racks, tally: &mut Tally) {
         ("refused 5", 2_000),
         ("refused 6", 2_000),
         ("refused 7", 2_000),
+        ("refused 16", 2_000),
+        ("a service clip, and a demand out of range", 50),
+        ("film 49,999", 50),
         ("some film left", 20_000),
         ("nothing left", 20_000),
         ("one stream", 2_000),
@@ -169,6 +175,15 @@ fn demands(list: &[u8]) -> impl Iterator<Item = u64> {
     demands.map(|(_, demand)| u64::from(demand))
 }
 
+/// Counts what else is wrong with the record of a service clip.
+fn tally_clip(case: &Case, planned: &Planned, tally: &mut Tally) {
+    let (_, demand) = lists::demands(&case.list)[planned.second as usize - 1];
+    tally.count_met(&[(
+        "a service clip, and a demand out of range",
+        demand > MOST_DEMAND,
+    )]);
+}
+
 /// Counts what kind of call was accepted, and what the tables hold after it.
 fn tally_shape(case: &Case, planned: &Planned, after: &GuardedTables, tally: &mut Tally) {
     let shelf = Shelf::of(&case.rack, &after.view(), planned.left);
@@ -180,6 +195,12 @@ fn tally_shape(case: &Case, planned: &Planned, after: &GuardedTables, tally: &mu
         ("largest rack", places(&case.rack) == 2_048),
         ("1,024 records", case.list.len() == 8_192),
         ("no record", case.list.is_empty()),
+        (
+            "film 49,999",
+            lists::demands(&case.list)
+                .iter()
+                .any(|&(film, _)| film == LAST_LISTED_FILM),
+        ),
         ("no film of demand 0", shelf.copies + shelf.left == 0),
         (
             "films of demand 0 alone",

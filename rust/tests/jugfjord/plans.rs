@@ -34,7 +34,7 @@ pub fn set_marks(dice: &mut Dice, plan: &mut Plan) {
 fn disk(dice: &mut Dice, disk: Disk) -> Vec<StoredCopy> {
     let count = dice.within(0, disk.slots.0);
     let viewers = disk_viewers(dice, disk, count);
-    let films = films(dice, count as usize).into_iter();
+    let films = films(dice, count as usize, LAST_FILM).into_iter();
     films.zip(viewers).map(StoredCopy::from).collect()
 }
 
@@ -68,7 +68,7 @@ fn viewers(dice: &mut Dice, count: u32, load: u32) -> Vec<u32> {
 
 /// So many left films in ascending order.
 pub fn left(dice: &mut Dice, count: usize) -> Vec<Pair> {
-    let mut films = films(dice, count);
+    let mut films = films(dice, count, LAST_FILM);
     films.sort_unstable();
     let mut amount = || match dice.below(8) {
         0 => 0,
@@ -178,7 +178,7 @@ pub const WRONG_SHAPE: [(&str, Wrong); 5] = [
         let Disk { slots, streams } = plan.rack[at];
         let most = u32::from(slots.0 < streams.0);
         let viewers = dice.within(0, most);
-        let copies = films(dice, slots.0 as usize + 1).into_iter();
+        let copies = films(dice, slots.0 as usize + 1, LAST_FILM).into_iter();
         plan.disks[at] = copies.map(|film| (film, viewers).into()).collect();
         Some(())
     }),

@@ -1,7 +1,8 @@
 //! What the inputs hold: right racks and records, wrong ones, and bytes that mislead who reads on.
 
 use jugfjord::rack::{
-    records, LAST_FILM, MOST_DEMAND, MOST_DISKS, MOST_RECORDS, MOST_SLOTS, MOST_STREAMS, RECORD,
+    records, LAST_FILM, LAST_LISTED_FILM, MOST_DEMAND, MOST_DISKS, MOST_RECORDS, MOST_SLOTS,
+    MOST_STREAMS, RECORD,
 };
 
 use crate::dice::Dice;
@@ -32,8 +33,8 @@ fn is_judged(length: usize) -> bool {
 /// Distinct films with demands, for the whole records of this length and the odd bytes behind.
 fn demands(length: usize, most: u32) -> Vec<(u32, u32)> {
     let mut dice = Dice::new(length as u64);
-    // The step shares no factor with 65,535, so that no film comes twice.
-    let film = |at: usize| (at * 7 % LAST_FILM as usize) as u32 + 1;
+    // The step shares no factor with 49,999, so that no film comes twice.
+    let film = |at: usize| (at * 7 % LAST_LISTED_FILM as usize) as u32 + 1;
     (0..=whole_records(length))
         .map(|at| (film(at), dice.within(0, most)))
         .collect()
@@ -86,16 +87,16 @@ pub fn out_of_range(length: usize) -> Vec<Named> {
     [0, RACKS[0].0[at] + 1].map(named).to_vec()
 }
 
-/// A record that breaks the rule of refusal 4, 5 or 6, where there are two records. Each rule is
+/// A record that breaks the rule of refusal 4, 16, 5 or 6, where there are two records. Each rule is
 /// broken early, late and last where the list is judged record by record, else at one place.
 pub fn faulty(length: usize) -> Vec<Named> {
     let count = whole_records(length);
     let places = [2, count.saturating_sub(1), count];
-    let turns = (0..9).map(|turn| (turn / 3, turn % 3));
+    let turns = (0..12).map(|turn| (turn / 3, turn % 3));
     turns
-        .filter(|&(rule, place)| is_judged(length) || rule == place)
+        .filter(|&(rule, place)| is_judged(length) || rule % 3 == place)
         .filter(|&(_, place)| (2..=count).contains(&places[place]))
-        .map(|(rule, place)| with_fault(length, [4, 5, 6][rule], places[place]))
+        .map(|(rule, place)| with_fault(length, [4, 16, 5, 6][rule], places[place]))
         .collect()
 }
 
@@ -106,6 +107,7 @@ fn with_fault(length: usize, number: u32, place: usize) -> Named {
     let (first, (film, demand)) = (list[0].0, list[place - 1]);
     list[place - 1] = match number {
         4 => (LAST_FILM + 1, demand),
+        16 => (LAST_LISTED_FILM + 1, demand),
         5 => (film, MOST_DEMAND + 1),
         _ => (first, demand),
     };

@@ -72,7 +72,7 @@ fn place(source: &Source, list: &List, refusal: Refusal) -> String {
     let line = match refusal.number {
         1 => disk_line(list, 0),
         3 => record_line(MOST_RECORDS),
-        4..=6 => record_line(second_of(refusal)),
+        4..=6 | 16 => record_line(second_of(refusal)),
         12 => disk_line(list, out_of_range_disk(&list.rack.entries())),
         13 => disk_line(list, second_of(refusal)),
         _ => None,
@@ -112,7 +112,7 @@ fn explained(list: &List, refusal: Refusal) -> String {
     let value = match refusal.number {
         1 | 12 | 13 => return format!("{} {}", wrong_rack(list, refusal), refusal.numbers()),
         2 => Some(list.records.len() as u64),
-        4 | 6 => list.films().nth(record).map(u64::from),
+        4 | 6 | 16 => list.films().nth(record).map(u64::from),
         5 => list.demands().nth(record).map(u64::from),
         _ => None,
     };
