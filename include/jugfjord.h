@@ -138,8 +138,8 @@ struct jugfjord_planned {
 
 /* Plans by the sliding-window method. `list` has eight bytes a record: film number, then demand, each 32 bits, least
  * significant byte first; list_count is in bytes. The tables need a copy place for each slot of the rack, a count for each disk
- * and a left place for each record. A list has films 1 to 49,999: the numbers above are service clips, which racks play from their
- * own memory. Refusals 12, 13 with the disk, 2, 3, 7, then record by record 4, 16, 5, 6 with the record. Less than 80 KiB of
+ * and a left place for each record. A list has films 1 to 49,999; 50,000 to 65,535 are service clips, which racks play from
+ * their own memory. Refusals 12, 13 with the disk, 2, 3, 7, then record by record 4, 16, 5, 6 with the record. Less than 80 KiB of
  * stack. */
 struct jugfjord_planned jugfjord_plan(const struct jugfjord_disk *rack, size_t rack_count,
                                       const uint8_t *list, size_t list_count,

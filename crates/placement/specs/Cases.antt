@@ -216,18 +216,18 @@ roomRefusals =
     ∷ refusal (disk 4 8 ∷ disk 2 4 ∷ []) [] (sevens 5 2 0) 7 0
     ∷ []
 
--- 16, with the record: films 50,000 and 65,535, whatever the demand; film 65,536 is 4, below. The first record with a fault decides.
+-- 16, with the record: films 50,000 to 65,535, whatever the demand; film 65,536 is 4, below. The first record with a fault decides.
 abbrev pub clipRefusals : List Row
 clipRefusals =
     row (rackOf 1 1 5) (50000 ∶ 5 ∷ []) (refuses 16 1)
     ∷ row (rackOf 1 1 5) (65535 ∶ 5 ∷ []) (refuses 16 1)
-    ∷ row (rackOf 1 1 5) (50000 ∶ 0 ∷ []) (refuses 16 1)
+    ∷ row (rackOf 1 1 5) (60000 ∶ 0 ∷ []) (refuses 16 1)
     ∷ row (rackOf 1 1 5) (50000 ∶ 1000001 ∷ []) (refuses 16 1)
     ∷ row (rackOf 1 1 5) (5 ∶ 1 ∷ 49999 ∶ 1 ∷ 50000 ∶ 1 ∷ 0 ∶ 1 ∷ []) (refuses 16 3)
     ∷ row (rackOf 1 1 5) (5 ∶ 1000001 ∷ 50000 ∶ 1 ∷ []) (refuses 5 1)
     ∷ []
 
--- Record by record: 4, 5, 6 in this order within a record, and the first record with a fault decides.
+-- Record by record: 4, 5, 6 in this order within a record, 16 apart, and the first record with a fault decides.
 abbrev pub recordRefusals : List Row
 recordRefusals =
     row (rackOf 1 1 5) (0 ∶ 5 ∷ []) (refuses 4 1)

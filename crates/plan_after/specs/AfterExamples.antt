@@ -76,8 +76,8 @@ abbrev accepted : List ℕ
 accepted = textLines ("(rack 1 1 1)" ∷ "(disk 1 (9 1))" ∷ "(left)" ∷ "(served 1 0)" ∷ [])
 
 -- In this order: the same plan, with marks of its own; films on the other disk; films that are left there; copies without viewers, and viewers that differ;
--- fewer disks; more disks of other slots; an empty plan; service clips in the earlier plan; an empty list; unequal disks; case F, whose film is held on one of its disks. Then the refusals:
--- planning's before those of the text, and the text's own.
+-- fewer disks; more disks of other slots; an empty plan; service clips in the earlier plan; an empty list; unequal disks; case F, whose film is held
+-- on one of its disks. Then the refusals: planning's before those of the text, and the text's own.
 abbrev pub afterRows : List AfterRow
 afterRows =
     marksAre ("(rack 2 2 5)" ∷ "(disk 1 (1 2 held) (2 3))" ∷ "(disk 2 (3 4 held) (4 0))" ∷ "(left)" ∷ "(served 9 0)" ∷ []) 1 1 1 1

@@ -65,8 +65,9 @@ fn a_list_file_of_disks_has_the_plan_of_the_reference() {
         compare(&folder.run(&["plan", "list.txt"]), &expected);
         compare_records(&folder.run(&["records", "list.txt"]), &rack, &list);
     }
-    let met = [met[0], met[12], met[13], met[16]];
-    assert!(met.iter().all(|&met| met > 5), "{met:?}");
+    let racks = [met[0], met[12], met[13]];
+    assert!(racks.iter().all(|&met| met > 10), "{met:?}");
+    assert!(met[16] > 5, "{met:?}");
 }
 
 /// Asserts that a run printed the records of equal disks, or failed.

@@ -36,7 +36,7 @@ fn film_49999_passes_and_50000_is_a_service_clip() {
     expect_refused(&rack_of(1), &[(50_000, 0)], 16, 1);
     expect_refused(&rack_of(1), &[(50_000, 1_000_001)], 16, 1);
     expect_refused(&rack_of(1), &[(60_000, 1), (60_000, 1)], 16, 1);
-    // An earlier record at fault comes first, and so does the first of two at fault.
+    // The first record at fault decides.
     expect_refused(&rack_of(1), &[(1, 1_000_001), (50_000, 1)], 5, 1);
     expect_refused(&rack_of(1), &[(50_000, 1), (0, 1)], 16, 1);
 }

@@ -50,7 +50,7 @@ pub const RENEWALS: [(&str, Renewal); 9] = [
         drawn(dice, rack, &pool[..few])
     }),
     ("drawn from other films", |dice, rack, _, pool| {
-        let others: Vec<u32> = pool.iter().map(|film| film % 65_535 + 1).collect();
+        let others: Vec<u32> = pool.iter().map(|film| film % LAST_FILM + 1).collect();
         drawn(dice, rack, &others)
     }),
     ("no films", |_, _, _, _| Layout::new()),

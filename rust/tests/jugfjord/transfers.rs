@@ -1,6 +1,7 @@
 //! Random pairs of texts, right and wrong, through all that find transfers.
 
 use jugfjord::ffi::Transferred;
+use jugfjord::rack::LAST_LISTED_FILM;
 use jugfjord::reference::plan::{Plan, StoredCopy};
 use jugfjord::reference::reader::{judge_text, plan_of};
 use jugfjord::reference::writer::text_of;
@@ -108,7 +109,7 @@ const ANSWERS: [(&str, usize); 23] = [
 ];
 
 /// How often each kind of accepted call has to be met.
-const KINDS: [(&str, usize); 16] = [
+const KINDS: [(&str, usize); 17] = [
     ("no transfer", 5_000),
     ("all from the loader", 5_000),
     ("none from the loader", 5_000),
@@ -119,6 +120,7 @@ const KINDS: [(&str, usize); 16] = [
     ("copy kept", 10_000),
     ("copy kept without viewers in the old plan", 5_000),
     ("marked copy transferred", 5_000),
+    ("service clip transferred", 5_000),
     ("copy kept without a mark", 5_000),
     ("films not ascending in the text", 5_000),
     ("placed before one that was placed earlier", 3_000),
@@ -314,6 +316,7 @@ fn tally_transfers([old, new]: &[Plan; 2], transfers: &[Transfer], tally: &mut T
             .count()
     };
     let is_unsorted = |copies: &Vec<StoredCopy>| !copies.is_sorted_by_key(|copy| copy.film);
+    let is_clip = |t: &Transfer| t.film() > LAST_LISTED_FILM;
     tally.count_met(&[
         ("film on several old disks", any(&|t| holders(t) > 1)),
         (
@@ -322,6 +325,7 @@ fn tally_transfers([old, new]: &[Plan; 2], transfers: &[Transfer], tally: &mut T
         ),
         ("destination with 0 viewers", any(&|t| made(t).viewers == 0)),
         ("marked copy transferred", any(&|t| made(t).is_held)),
+        ("service clip transferred", any(&is_clip)),
         (
             "films not ascending in the text",
             new.disks.iter().any(is_unsorted),

@@ -102,6 +102,7 @@ fn the_inputs_have_every_answer() {
         ("refused 4", 5),
         ("refused 5", 5),
         ("refused 6", 5),
+        ("refused 16", 5),
     ]);
 }
 

@@ -124,7 +124,7 @@ A list file:
   102,24
 Instead of the rack line, a line 'disk SLOTS STREAMS' for each disk, by number,
 makes a rack of large and small disks with one ratio of streams to slots.
-Films are 1 to 49999; the numbers above are those of service clips.
+Films are 1 to 49999; numbers 50000 to 65535 are those of service clips.
 Spaces, tabs, a comma or a semicolon stand between numbers. # begins a comment
 at the beginning of a line or behind one of these.
 A list in records is what `jugfjord records` prints and plan(1) reads. It has
