@@ -3,7 +3,7 @@ use Prim.Native.Nat.{_≤_}
 use native.Mathlib.Omega.{arith}
 use Rattle.refusal.specs.Numbers.{numberOf}
 use Rattle.refusal.specs.declared.Refusal.{Refusal}
-use Rattle.refusal.specs.declared.Refusal.the-variants.{RackOutOfRange, ListLength, TooManyRecords, FilmOutOfRange, DemandOutOfRange, FilmRepeated, TablesTooShort, TextTooLong, Line, NotWellFormed, SpaceTooShort, DisksOutOfRange, RatioDiffers, TooManyDisks, FirstLinesDiffer, ServiceClip}
+use Rattle.refusal.specs.declared.Refusal.the-variants.{RackOutOfRange, ListLength, TooManyRecords, FilmOutOfRange, DemandOutOfRange, FilmRepeated, TablesTooShort, TextTooLong, Line, NotWellFormed, SpaceTooShort, DisksOutOfRange, RatioDiffers, TooManyDisks, FirstLinesDiffer, ServiceClip, TerminalTooSmall}
 
 -- No refusal has the number 0.
 pub number-some : (r : Refusal) → 1 ≤ numberOf r
@@ -23,3 +23,4 @@ number-some (RatioDiffers disk) = omega arith
 number-some TooManyDisks = omega arith
 number-some FirstLinesDiffer = omega arith
 number-some (ServiceClip position) = omega arith
+number-some TerminalTooSmall = omega arith

@@ -2,7 +2,7 @@
 use Prim.Native.Nat.{ℕ}
 use Rattle.refusal.specs.Verdict.{Verdict, given, refused}
 use Rattle.refusal.specs.declared.Refusal.{Refusal}
-use Rattle.refusal.specs.declared.Refusal.the-variants.{RackOutOfRange, ListLength, TooManyRecords, FilmOutOfRange, DemandOutOfRange, FilmRepeated, TablesTooShort, TextTooLong, Line, NotWellFormed, SpaceTooShort, DisksOutOfRange, RatioDiffers, TooManyDisks, FirstLinesDiffer, ServiceClip}
+use Rattle.refusal.specs.declared.Refusal.the-variants.{RackOutOfRange, ListLength, TooManyRecords, FilmOutOfRange, DemandOutOfRange, FilmRepeated, TablesTooShort, TextTooLong, Line, NotWellFormed, SpaceTooShort, DisksOutOfRange, RatioDiffers, TooManyDisks, FirstLinesDiffer, ServiceClip, TerminalTooSmall}
 use Rattle.refusal.specs.declared.Judgement.{Judgement}
 use Rattle.refusal.specs.declared.Judgement.the-variants.{Passed, Refused}
 
@@ -23,6 +23,7 @@ numberOf (RatioDiffers disk) = 13
 numberOf TooManyDisks = 14
 numberOf FirstLinesDiffer = 15
 numberOf (ServiceClip position) = 16
+numberOf TerminalTooSmall = 17
 
 -- The position of the record, the line, or the disk; 0 where no second number is named.
 abbrev pub secondOf : Refusal → ℕ
@@ -42,6 +43,7 @@ secondOf (RatioDiffers disk) = disk
 secondOf TooManyDisks = 0
 secondOf FirstLinesDiffer = 0
 secondOf (ServiceClip position) = position
+secondOf TerminalTooSmall = 0
 
 -- A refusal as a verdict on any call.
 abbrev pub refusalOf : {A : Type 0} → Refusal → Verdict A

@@ -20,6 +20,7 @@ pub enum Refusal {
     TooManyDisks,
     FirstLinesDiffer,
     ServiceClip(u32),
+    TerminalTooSmall,
 }
 
 // What a judgement comes to: no refusal applies, or the first that does.
@@ -49,6 +50,7 @@ pub fn number(refusal: Refusal) -> u32
         Refusal::TooManyDisks => 14,
         Refusal::FirstLinesDiffer => 15,
         Refusal::ServiceClip(_) => 16,
+        Refusal::TerminalTooSmall => 17,
     }
 }
 
@@ -73,5 +75,6 @@ pub fn second(refusal: Refusal) -> u32
         Refusal::TooManyDisks => 0,
         Refusal::FirstLinesDiffer => 0,
         Refusal::ServiceClip(position) => position,
+        Refusal::TerminalTooSmall => 0,
     }
 }
