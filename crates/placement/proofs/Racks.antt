@@ -92,7 +92,7 @@ pub equal-disks : (rack : List Disk) → allEqual rack ≡ true → rack ≡ rac
 equal-disks rack e = alike-equal (firstSlots rack) (firstLoad rack) rack e
 
 -- Disks in range have at most so many slots and streams.
-range-slots : (ds : List Disk) → allInRange ds ≡ true → allSlots ds ≤ length ds * mostSlots
+pub range-slots : (ds : List Disk) → allInRange ds ≡ true → allSlots ds ≤ length ds * mostSlots
 range-slots [] e = omega arith
 range-slots (d ∷ ds) e =
     let both = both-true (diskInRange d) (allInRange ds) e in

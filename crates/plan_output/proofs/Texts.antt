@@ -1,27 +1,25 @@
 -- Writing the tables that planning leaves shows the text of the plan.
 use mathlib.Core.Path.{_≡_, sym, ap, ap₂, subst, _∙_}
 use mathlib.Core.Bool.{true}
-use mathlib.Core.List.{List, _++_, map}
+use mathlib.Core.List.{List, _++_}
 use Prim.Native.Nat.{ℕ, _≤_}
 use native.Mathlib.Omega.{arith}
-use borrow.Author.Tests.{leb-true, le-leb, lt-leb}
-use lib.Dec.{leb}
-use lib.ListN.{length, drop, length-append, length-drop, take-append-drop}
+use borrow.Author.Tests.{le-leb, lt-leb}
+use lib.ListN.{length, drop, take-append-drop}
 use Rattle.refusal.specs.Verdict.{given, Numbers}
-use Rattle.placement.specs.Copies.{halvesOf}
-use Rattle.placement.specs.Rack.{Disk, allSlots, rackAccepted}
-use Rattle.placement.specs.Tables.{Tables, entryOf, written, places, padded, roomFor, ownTables}
+use Rattle.placement.specs.Rack.{rackAccepted}
+use Rattle.placement.specs.Tables.{Tables, ownTables}
 use Rattle.placement.specs.Records.{recordCount}
 use Rattle.placement.specs.Planning.{Call, verdict, planIn, holdingCall}
 use Rattle.placement.specs.PlanPromise.{PlanPromise}
 use Rattle.placement.specs.WellFormed.{CallWellFormed}
-use Rattle.placement.proofs.Conjunctions.{both-true, and-holds, cond-true, cond-false}
+use Rattle.placement.proofs.Conjunctions.{cond-true, cond-false}
 use Rattle.placement.proofs.Tests.{by-order}
 use Rattle.placement.proofs.OwnTables.{own-room}
 use Rattle.placement.proofs.Calls.{call-wellFormed}
 use Rattle.plan_text.specs.Text.{textOf}
 use Rattle.plan_text.specs.WriteCall.{WriteCall, writeCall, roomStated, wellFormedCall}
-use Rattle.plan_text.proofs.Planned.{planned-held, planned-wellFormed}
+use Rattle.plan_text.proofs.Planned.{planned-room, planned-held, planned-wellFormed}
 use Rattle.planner.specs.declared.answer.Answer.{Answer}
 use Rattle.planner.specs.declared.answer.Answer.the-variants.{Planned}
 use Rattle.planner.specs.Answers.{planNumbers}
@@ -53,22 +51,6 @@ held-shown {c} {entry} {exit} {n} rack room formed promise =
           ∙ sym (cond-true _ _ _ test);
     })
 
--- A table is no shorter for what was written to it.
-written-room : (new old : List ℕ) → length old ≤ length (written new old)
-written-room new old = omega (arith, length-append new (drop (length new) old), length-drop (length new) old)
-
--- Tables that are no shorter have as much room.
-room-kept :
-    (rack : List Disk) (n : ℕ) (t after : Tables) → length (t .copies) ≤ length (after .copies)
-    → length (t .counts) ≤ length (after .counts) → length (t .left) ≤ length (after .left) → roomFor rack n t ≡ true
-    → roomFor rack n after ≡ true
-room-kept rack n t after copies counts left room =
-    let all = both-true (leb (allSlots rack) (length (t .copies))) _ room in
-    let rest = both-true (leb (length rack) (length (t .counts))) _ (all .1) in
-    and-holds _ _ (le-leb (allSlots rack) (length (after .copies)) (omega (arith, leb-true (allSlots rack) _ (all .0))))
-    (and-holds _ _ (le-leb (length rack) (length (after .counts)) (omega (arith, leb-true (length rack) _ (rest .0))))
-    (le-leb n (length (after .left)) (omega (arith, leb-true n _ (rest .1)))))
-
 module _ (c : Call) (formed : CallWellFormed c) where
   -- The call of writing with the tables that planning leaves.
   abbrev afterPlanning : WriteCall
@@ -76,11 +58,7 @@ module _ (c : Call) (formed : CallWellFormed c) where
 
   room-after : roomStated afterPlanning ≡ true
   room-after =
-      room-kept (c .rack) (length (planIn c .left)) ownTables (holdingCall c ownTables)
-      (written-room (places (c .rack) (map (map halvesOf) (planIn c .copies))) (ownTables .copies))
-      (written-room (map length (map (map halvesOf) (planIn c .copies))) (ownTables .counts))
-      (written-room (padded (recordCount (c .list)) (map entryOf (planIn c .left))) (ownTables .left))
-      (own-room (c .rack) (length (planIn c .left)) (formed .rack) (omega (arith, formed .leftMost, formed .recordsMost)))
+      planned-room c ownTables (own-room (c .rack) (recordCount (c .list)) (formed .rack) (formed .recordsMost)) (formed .leftMost)
 
   -- Writing them shows the text of the plan.
   text-shown :
