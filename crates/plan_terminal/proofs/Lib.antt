@@ -1,0 +1,6 @@
+pub mod TerminalChain
+pub mod OtherRefusals
+pub mod OfficeText
+pub mod TerminalPromise
+pub mod LongRacks
+pub mod TerminalCasesHold

@@ -1,0 +1,117 @@
+-- The promise of planning on the purser's terminal follows from its definition.
+use mathlib.Core.Path.{_≡_, refl, sym, ap, subst, _∙_}
+use mathlib.Core.Bool.{true, false}
+use mathlib.Core.List.{List}
+use Prim.Native.Nat.{ℕ, _≤_}
+use native.Mathlib.Omega.{arith}
+use Rattle.refusal.specs.Verdict.{Verdict, given, refused, Numbers}
+use Rattle.refusal.specs.Numbers.{refusalOf}
+use Rattle.refusal.specs.declared.Refusal.{Refusal}
+use Rattle.refusal.proofs.Verdicts.{Numbered}
+use Rattle.placement.specs.Records.{shapeJudged}
+use Rattle.placement.specs.Tables.{Tables}
+use Rattle.placement.specs.Planning.{Call, PlanSums, rackJudged, verdict, planning, tablesAfter, answerFor, tablesFor, holdingCall}
+use Rattle.placement.specs.PlanPromise.{PlanPromise}
+use Rattle.placement.proofs.Conjunctions.{false-true}
+use Rattle.placement.proofs.PlanPromise.{plan-promise}
+use Rattle.plan_text.specs.Text.{linesOf}
+use Rattle.plan_text.specs.WriteCall.{WriteCall, writing, spaceAfter, planOf}
+use Rattle.planner.specs.declared.answer.Answer.the-variants.{Refused}
+use Rattle.planner.specs.Answers.{planNumbers}
+use Rattle.plan_terminal.specs.Terminal.{fitsTerminal, terminalVerdict, terminalPlanning, terminalTablesAfter}
+use Rattle.plan_terminal.specs.TerminalPromise.{writingOf, OfficeRoom, TerminalPromise}
+use Rattle.plan_terminal.proofs.TerminalChain.{fits-verdict, large-verdict, large-seventeen, given-fits, terminal-numbered}
+use Rattle.plan_terminal.proofs.OtherRefusals.{Other, terminal-enough}
+use Rattle.plan_terminal.proofs.OfficeText.{room-verdict, afterPlanning, plan-is, written-numbers, written-bytes}
+
+module _ (c : Call) (t : Tables) where
+  -- Planning's promise where its verdict is the terminal's.
+  same-promise : (v : Verdict (Unit {0})) → verdict c t ≡ v → PlanPromise c t (tablesFor c t v) (answerFor c v)
+  unfolding planning tablesAfter
+  same-promise v e = plan-promise c t (tablesFor c t v) (answerFor c v) (sym (ap (answerFor c) e)) (sym (ap (tablesFor c t) e))
+
+  -- A refusal keeps it,
+  refused-keeps : (n s : ℕ) → terminalVerdict c t ≡ refused n s → TerminalPromise c t t (answerFor c (refused n s))
+  unfolding terminalPlanning terminalTablesAfter
+  refused-keeps n s e =
+      let some : 1 ≤ n = subst Numbered e (terminal-numbered c t) in
+      record {
+        numbers = sym (ap (answerFor c) e);
+        tables = sym (ap (tablesFor c t) e);
+        unchanged = λ h. refl;
+        refusesSize = λ rack whole few large.
+            let seventeen : refused n s ≡ refused 17 0 = sym e ∙ large-verdict c t large ∙ large-seventeen c rack whole few in
+            (ap (λ (v : Verdict (Unit {0})). answerFor c v .refusal) seventeen, ap (λ (v : Verdict (Unit {0})). answerFor c v .second) seventeen);
+        within = λ fits. same-promise (refused n s) (sym (fits-verdict c t fits) ∙ e);
+        office = λ h. absurd (omega (arith, some, h));
+        lines = λ h. absurd (omega (arith, some, h));
+        text = λ h. absurd (omega (arith, some, h));
+        enough = λ copies counts left. subst (Other 7) e (terminal-enough c t copies counts left);
+      }
+
+  -- The office's tables after a call that is planned.
+  after-is : (office : Tables) → verdict c office ≡ given tt → tablesAfter c office ≡ holdingCall c office
+  unfolding tablesAfter
+  after-is office e = ap (tablesFor c office) e
+
+  answer-is : (office : Tables) → verdict c office ≡ given tt → planning c office ≡ answerFor c (given tt)
+  unfolding planning
+  answer-is office e = ap (answerFor c) e
+
+  -- and so does a plan.
+  planned-keeps : terminalVerdict c t ≡ given tt → TerminalPromise c t (holdingCall c t) (answerFor c (given tt))
+  unfolding terminalPlanning terminalTablesAfter
+  planned-keeps e =
+      let fits : fitsTerminal c ≡ true = given-fits c t e in
+      let here : verdict c t ≡ given tt = sym (fits-verdict c t fits) ∙ e in
+      record {
+        numbers = sym (ap (answerFor c) e);
+        tables = sym (ap (tablesFor c t) e);
+        unchanged = λ h. absurd (omega (arith, h));
+        refusesSize = λ rack whole few large. false-true (sym large ∙ fits);
+        within = λ fits′. same-promise (given tt) here;
+        office = λ h. same-promise (given tt) here;
+        lines = λ h office room.
+            let there : verdict c office ≡ given tt = room-verdict c t office here room in
+            (answer-is office there,
+            ap (λ (x : Tables). linesOf (planOf (writingOf c x (answerFor c (given tt))))) (after-is office there)
+            ∙ ap linesOf (plan-is c office there ∙ sym (plan-is c t here)));
+        text = λ h office room space.
+            let there : verdict c office ≡ given tt = room-verdict c t office here room in
+            (ap (λ (x : Tables). writing (writingOf c x (answerFor c (given tt))) space) (after-is office there)
+            ∙ written-numbers c office there space ∙ sym (written-numbers c t here space),
+            ap (λ (x : Tables). spaceAfter (writingOf c x (answerFor c (given tt))) space) (after-is office there)
+            ∙ written-bytes c office there space ∙ sym (written-bytes c t here space));
+        enough = λ copies counts left seven. absurd (omega (arith, seven));
+      }
+
+  by-verdict : (v : Verdict (Unit {0})) → terminalVerdict c t ≡ v → TerminalPromise c t (tablesFor c t v) (answerFor c v)
+  by-verdict (given u) e = planned-keeps e
+  by-verdict (refused n s) e = refused-keeps n s e
+
+  by-definition : TerminalPromise c t (terminalTablesAfter c t) (terminalPlanning c t)
+  unfolding terminalPlanning terminalTablesAfter
+  by-definition = by-verdict (terminalVerdict c t) refl
+
+  module _ {exit : Tables} {answer : Numbers PlanSums} where
+    -- An answer and tables that are the definition's keep the whole promise.
+    pub terminal-promise : answer ≡ terminalPlanning c t → exit ≡ terminalTablesAfter c t → TerminalPromise c t exit answer
+    terminal-promise numbers tables =
+        subst (λ (a : Numbers PlanSums). TerminalPromise c t exit a) (sym numbers)
+        (subst (λ (x : Tables). TerminalPromise c t x (terminalPlanning c t)) (sym tables) by-definition)
+
+    -- So does planning of a call that fits,
+    pub fits-promise : fitsTerminal c ≡ true → PlanPromise c t exit answer → TerminalPromise c t exit answer
+    unfolding planning tablesAfter terminalPlanning terminalTablesAfter
+    fits-promise fits promise =
+        terminal-promise (promise .numbers ∙ sym (ap (answerFor c) (fits-verdict c t fits)))
+        (promise .tables ∙ sym (ap (tablesFor c t) (fits-verdict c t fits)))
+
+  -- and the refusal of any other call.
+  pub large-promise :
+      (r : Refusal) → fitsTerminal c ≡ false → refusalOf {A = Unit {0}} r ≡ rackJudged (c .rack) (shapeJudged (c .list) (refused 17 0))
+      → TerminalPromise c t t (planNumbers (Refused r))
+  unfolding terminalPlanning terminalTablesAfter
+  large-promise r large e =
+      let same : refusalOf r ≡ terminalVerdict c t = e ∙ sym (large-verdict c t large) in
+      terminal-promise (ap (answerFor c) same) (ap (tablesFor c t) same)
