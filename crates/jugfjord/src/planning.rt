@@ -11,6 +11,7 @@ ghost use Rattle.placement.specs.Planning.{call};
 ghost use Rattle.placement.specs.PlanPromise.{PlanPromise};
 ghost use Rattle.disk_entries.specs.Entries.{disksOfEntries, heldDisks};
 ghost use Rattle.plan_after.specs.AfterPromise.{PlanAfterPromise};
+ghost use Rattle.plan_terminal.specs.TerminalPromise.{TerminalPromise};
 ghost use Rattle.planner.specs.Answers.{planNumbers};
 ghost use Rattle.planner.specs.declared.answer.Answer.the-variants.{Refused};
 ghost use Rattle.jugfjord.specs.Numbers.{plannedFields};
@@ -95,6 +96,43 @@ pub extern "C" fn jugfjord_plan(
         (plannedFields r) ⌝ }
 {
     plan_packed(pack(rack), list, copies, counts, left)
+}
+
+// Planning on the purser's terminal, with packed disks.
+fn plan_terminal_packed(
+    rack: PackedDisks,
+    list: &[u8],
+    copies: &mut [u64],
+    counts: &mut [u32],
+    left: &mut [u64],
+) -> Planned
+    ensures { λ r. ⌜ TerminalPromise
+        (call (heldDisks rack) (now (list .entry)))
+        (tables (now (copies .entry)) (now (counts .entry)) (now (left .entry)))
+        (tables (now (copies .exit)) (now (counts .exit)) (now (left .exit)))
+        (plannedFields r) ⌝ }
+{
+    let count = held_count(rack);
+    let disks = rack.disks;
+    planned_numbers(plan_terminal::plan_terminal(&disks[..count], list, copies, counts, left))
+}
+
+// `plan_terminal::plan_terminal` with lent entries. Proved by the walk of `jugfjord_plan`.
+#[no_mangle]
+pub extern "C" fn jugfjord_plan_terminal(
+    rack: &[DiskEntry],
+    list: &[u8],
+    copies: &mut [u64],
+    counts: &mut [u32],
+    left: &mut [u64],
+) -> Planned
+    ensures { λ r. ⌜ TerminalPromise
+        (call (disksOfEntries (now (rack .entry))) (now (list .entry)))
+        (tables (now (copies .entry)) (now (counts .entry)) (now (left .entry)))
+        (tables (now (copies .exit)) (now (counts .exit)) (now (left .exit)))
+        (plannedFields r) ⌝ }
+{
+    plan_terminal_packed(pack(rack), list, copies, counts, left)
 }
 
 // Planning after an earlier plan, with packed disks.

@@ -80,21 +80,21 @@ module _ (c : Call) (t : Tables) where
 
   module _
       (copies : terminalDisks * mostSlots ≤ length (t .copies)) (counts : terminalDisks ≤ length (t .counts)) (left : terminalRecords ≤ length (t .left))
-      where
-    -- Tables of the terminal's size have room for what fits.
-    fits-room : allInRange (c .rack) ≡ true → fitsTerminal c ≡ true → roomFor (c .rack) (recordCount (c .list)) t ≡ true
-    fits-room ranges fits =
-        let both = both-true (leb (length (c .rack)) terminalDisks) (leb (recordCount (c .list)) terminalRecords) fits in
-        let disks = leb-true (length (c .rack)) terminalDisks (both .0) in
-        and-holds _ _ (le-leb _ (length (t .copies)) (omega (arith, range-slots (c .rack) ranges, disks, copies)))
-        (and-holds _ _ (le-leb (length (c .rack)) (length (t .counts)) (omega (arith, disks, counts)))
-        (le-leb (recordCount (c .list)) (length (t .left)) (omega (arith, leb-true (recordCount (c .list)) terminalRecords (both .1), left))))
+    where
+      -- Tables of the terminal's size have room for what fits.
+      fits-room : allInRange (c .rack) ≡ true → fitsTerminal c ≡ true → roomFor (c .rack) (recordCount (c .list)) t ≡ true
+      fits-room ranges fits =
+          let both = both-true (leb (length (c .rack)) terminalDisks) (leb (recordCount (c .list)) terminalRecords) fits in
+          let disks = leb-true (length (c .rack)) terminalDisks (both .0) in
+          and-holds _ _ (le-leb _ (length (t .copies)) (omega (arith, range-slots (c .rack) ranges, disks, copies)))
+          (and-holds _ _ (le-leb (length (c .rack)) (length (t .counts)) (omega (arith, disks, counts)))
+          (le-leb (recordCount (c .list)) (length (t .left)) (omega (arith, leb-true (recordCount (c .list)) terminalRecords (both .1), left))))
 
-    -- So 7 is never given.
-    pub terminal-enough : Other 7 (terminalVerdict c t)
-    terminal-enough =
-        other-rack 7 (c .rack) _ (λ e. omega arith) (λ e. omega arith)
-        (λ ranges. other-shape 7 (c .list) _ (λ e. omega arith) (λ e. omega arith)
-        (other-unless 7 (fitsTerminal c) 17 0 _ (λ e. omega arith)
-        (λ fits. subst (Other 7) (sym (unless-passes (roomFor (c .rack) (recordCount (c .list)) t) 7 0 _ (fits-room ranges fits)))
-        (other-records 7 (λ e. omega arith) (λ e. omega arith) (λ e. omega arith) (λ e. omega arith) [] 1 (recordsIn c)))))
+      -- So 7 is never given.
+      pub terminal-enough : Other 7 (terminalVerdict c t)
+      terminal-enough =
+          other-rack 7 (c .rack) _ (λ e. omega arith) (λ e. omega arith)
+          (λ ranges. other-shape 7 (c .list) _ (λ e. omega arith) (λ e. omega arith)
+          (other-unless 7 (fitsTerminal c) 17 0 _ (λ e. omega arith)
+          (λ fits. subst (Other 7) (sym (unless-passes (roomFor (c .rack) (recordCount (c .list)) t) 7 0 _ (fits-room ranges fits)))
+          (other-records 7 (λ e. omega arith) (λ e. omega arith) (λ e. omega arith) (λ e. omega arith) [] 1 (recordsIn c)))))

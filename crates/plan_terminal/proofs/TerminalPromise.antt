@@ -72,16 +72,18 @@ module _ (c : Call) (t : Tables) where
         within = λ fits′. same-promise (given tt) here;
         office = λ h. same-promise (given tt) here;
         lines = λ h office room.
-            let there : verdict c office ≡ given tt = room-verdict c t office here room in
-            (answer-is office there,
-            ap (λ (x : Tables). linesOf (planOf (writingOf c x (answerFor c (given tt))))) (after-is office there)
-            ∙ ap linesOf (plan-is c office there ∙ sym (plan-is c t here)));
+            let there : verdict c office ≡ given tt = room-verdict c t office here room in (
+              answer-is office there,
+              ap (λ (x : Tables). linesOf (planOf (writingOf c x (answerFor c (given tt))))) (after-is office there)
+                  ∙ ap linesOf (plan-is c office there ∙ sym (plan-is c t here)),
+            );
         text = λ h office room space.
-            let there : verdict c office ≡ given tt = room-verdict c t office here room in
-            (ap (λ (x : Tables). writing (writingOf c x (answerFor c (given tt))) space) (after-is office there)
-            ∙ written-numbers c office there space ∙ sym (written-numbers c t here space),
-            ap (λ (x : Tables). spaceAfter (writingOf c x (answerFor c (given tt))) space) (after-is office there)
-            ∙ written-bytes c office there space ∙ sym (written-bytes c t here space));
+            let there : verdict c office ≡ given tt = room-verdict c t office here room in (
+              ap (λ (x : Tables). writing (writingOf c x (answerFor c (given tt))) space) (after-is office there)
+                  ∙ written-numbers c office there space ∙ sym (written-numbers c t here space),
+              ap (λ (x : Tables). spaceAfter (writingOf c x (answerFor c (given tt))) space) (after-is office there)
+                  ∙ written-bytes c office there space ∙ sym (written-bytes c t here space),
+            );
         enough = λ copies counts left seven. absurd (omega (arith, seven));
       }
 

@@ -1,0 +1,2 @@
+-- What the proofs of the C functions that plan share.
+mod PlanWalk
