@@ -64,6 +64,19 @@ extern "C" {
         left_count: usize,
     ) -> Planned;
 
+    pub(crate) fn jugfjord_plan_terminal(
+        rack: *const Disk,
+        rack_count: usize,
+        list: *const u8,
+        list_count: usize,
+        copies: *mut Entry,
+        copies_count: usize,
+        counts: *mut u32,
+        counts_count: usize,
+        left: *mut Entry,
+        left_count: usize,
+    ) -> Planned;
+
     pub(crate) fn jugfjord_plan_after(
         rack: *const Disk,
         rack_count: usize,

@@ -4,6 +4,10 @@ pub const MOST_DISKS: u32 = 64;
 pub const MOST_SLOTS: u32 = 32;
 pub const MOST_STREAMS: u32 = 65_535;
 pub const MOST_RECORDS: usize = 1_024;
+/// The most disks that the purser's terminal plans for.
+pub const TERMINAL_DISKS: usize = 8;
+/// The most records that it plans.
+pub const TERMINAL_RECORDS: usize = 96;
 /// The last film that a plan may have.
 pub const LAST_FILM: u32 = 65_535;
 /// The last film that a demand list may hold. The films above it are service clips.

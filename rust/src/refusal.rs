@@ -55,7 +55,7 @@ const fn words_of_a(second: &'static str, subject: &'static str, fault: &'static
 }
 
 /// The words for each refusal, from number 1 on.
-const WORDS: [Words; 16] = [
+const WORDS: [Words; 17] = [
     words("a number of the rack", "is out of range"),
     words("list length", "is no multiple of 8"),
     words("the list", "has more than 1024 records"),
@@ -80,6 +80,10 @@ const WORDS: [Words; 16] = [
     words("the old or the new plan", "has more than 8 disks"),
     words("the first lines", "of the old and the new plan differ"),
     words_of_a("record", "film number", "is above 49999, a service clip"),
+    words(
+        "the rack or the list",
+        "has more than the terminal's 8 disks or 96 records",
+    ),
 ];
 
 impl Refusal {

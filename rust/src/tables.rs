@@ -2,7 +2,9 @@
 
 use std::fmt;
 
-use crate::rack::{disks_in_range, places, Disk, Rack, MOST_RECORDS};
+use crate::rack::{
+    disks_in_range, places, Disk, Rack, MOST_RECORDS, TERMINAL_DISKS, TERMINAL_RECORDS,
+};
 
 /// An entry of the copy table or of the left table: one number, the film in its low 16 bits, in the
 /// copy table the mark in the 16 bits above them, and the viewers or the amount in its high 32 bits.
@@ -87,6 +89,11 @@ impl OwnTables {
     /// Tables of zeros with room for any plan.
     pub fn for_any_plan() -> Self {
         Self::for_plan(&Rack::largest().entries(), MOST_RECORDS)
+    }
+
+    /// Tables of zeros with room for any plan of the purser's terminal.
+    pub fn for_terminal() -> Self {
+        Self::for_plan(&[Disk::largest(); TERMINAL_DISKS], TERMINAL_RECORDS)
     }
 }
 

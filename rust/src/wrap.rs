@@ -41,6 +41,22 @@ pub fn plan(rack: &[Disk], list: &[u8], tables: LentTables) -> Planned {
     }
 }
 
+/// Plans a demand list into the tables as the purser's terminal does: more than 8 disks or more than
+/// 96 records are refused. A refusal leaves the tables as they were.
+pub fn plan_terminal(rack: &[Disk], list: &[u8], tables: LentTables) -> Planned {
+    let (disks, disk_count) = (rack.as_ptr(), rack.len());
+    let (bytes, count) = (list.as_ptr(), list.len());
+    // SAFETY: as in `plan`.
+    unsafe {
+        call!(
+            jugfjord_plan_terminal,
+            (disks, disk_count, bytes, count),
+            tables.as_mut_ptr,
+            ()
+        )
+    }
+}
+
 /// Plans a demand list into the tables, and marks each copy whose film the same disk held in the
 /// plan of an earlier text. A refusal leaves the tables as they were.
 pub fn plan_after(rack: &[Disk], list: &[u8], earlier: &[u8], tables: LentTables) -> Planned {

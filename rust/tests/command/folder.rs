@@ -9,7 +9,7 @@ use std::sync::atomic::{AtomicUsize, Ordering};
 use std::thread;
 
 use jugfjord::rack::{records, Disk, Rack, Slots, Streams, MOST_BYTES};
-use jugfjord::reference::{after, mixed_planner, planner, writer};
+use jugfjord::reference::{after, mixed_planner, planner, terminal, writer};
 use jugfjord::refusal::Refusal;
 use jugfjord::tables::{OwnTables, Tables};
 
@@ -149,6 +149,14 @@ pub fn reference_text(rack: Rack, list: &[u8]) -> Result<String, Refusal> {
 pub fn mixed_text(rack: &[Disk], list: &[u8]) -> Result<String, Refusal> {
     let mut tables = Tables::for_any_plan();
     let planned = mixed_planner::plan(rack, list, tables.lend()).accepted()?;
+    text_of_tables(rack, tables, planned.left)
+}
+
+/// The plan text of a list by the plain planner of the purser's terminal and the plain writer, or its
+/// refusal.
+pub fn terminal_text(rack: &[Disk], list: &[u8]) -> Result<String, Refusal> {
+    let mut tables = Tables::for_any_plan();
+    let planned = terminal::plan(rack, list, tables.lend()).accepted()?;
     text_of_tables(rack, tables, planned.left)
 }
 

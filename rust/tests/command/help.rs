@@ -12,6 +12,7 @@ fn help_names_every_use_and_the_exit_statuses() {
         "plan LIST",
         "plan --records FILE",
         "plan ... --after PLAN",
+        "plan ... --terminal",
         "records LIST",
         "check PLAN",
         "show PLAN",
@@ -85,7 +86,7 @@ fn the_man_page_names_every_command() {
 }
 
 /// Wrong command lines, and what is said of them.
-const WRONG: [(&[&str], &str); 26] = [
+const WRONG: [(&[&str], &str); 31] = [
     (&[], "expected a command, see jugfjord --help"),
     (&["plam"], "there is no command 'plam', see jugfjord --help"),
     (
@@ -157,6 +158,26 @@ const WRONG: [(&[&str], &str); 26] = [
     (
         &["plan", "-", "--after", "-"],
         "plan expects - once, see jugfjord plan --help",
+    ),
+    (
+        &["plan", "--terminal"],
+        "plan expects LIST, see jugfjord plan --help",
+    ),
+    (
+        &["plan", "--records", "--terminal"],
+        "plan expects FILE, see jugfjord plan --help",
+    ),
+    (
+        &["plan", "--terminal", "list.txt", "x.txt"],
+        "plan expects no further file, found 'x.txt', see jugfjord plan --help",
+    ),
+    (
+        &["plan", "--terminal", "list.txt", "--after", "x.txt"],
+        "plan expects no --after with --terminal, see jugfjord plan --help",
+    ),
+    (
+        &["records", "--terminal", "list.txt"],
+        "records has no option '--terminal', see jugfjord records --help",
     ),
     (
         &["transfers"],

@@ -10,6 +10,7 @@ mod list_errors;
 mod list_forms;
 mod list_racks;
 mod pages;
+mod plan_terminal;
 mod random_lists;
 mod refusals;
 mod showing;

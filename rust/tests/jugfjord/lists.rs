@@ -116,6 +116,11 @@ pub fn good(dice: &mut Dice, rack: Vec<Disk>, kind: Demands) -> (Case, Need) {
         2..=14 => dice.below(4),
         _ => dice.below(40),
     };
+    good_of(dice, rack, kind, count)
+}
+
+/// The same with so many records.
+pub fn good_of(dice: &mut Dice, rack: Vec<Disk>, kind: Demands, count: usize) -> (Case, Need) {
     let mut demands = kind(dice, &rack, count);
     set_to_zero(dice, &mut demands);
     let films = films(dice, count, LAST_LISTED_FILM).into_iter();

@@ -14,6 +14,8 @@ mod lists;
 mod mark_edges;
 mod marks;
 mod pairs;
+mod plan_terminal;
+mod plan_terminal_cases;
 mod planning;
 mod plans;
 mod rack_edges;

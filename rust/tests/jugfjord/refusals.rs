@@ -5,7 +5,7 @@ use std::error::Error;
 use jugfjord::refusal::Refusal;
 
 /// Each refusal of documents 01 and 02, with a second number where it has one.
-const WORDS: [(u32, u32, &str); 16] = [
+const WORDS: [(u32, u32, &str); 17] = [
     (1, 0, "a number of the rack is out of range (refused 1)"),
     (2, 0, "list length is no multiple of 8 (refused 2)"),
     (3, 0, "the list has more than 1024 records (refused 3)"),
@@ -54,6 +54,11 @@ const WORDS: [(u32, u32, &str); 16] = [
         3,
         "film number is above 49999, a service clip (refused 16, record 3)",
     ),
+    (
+        17,
+        0,
+        "the rack or the list has more than the terminal's 8 disks or 96 records (refused 17)",
+    ),
 ];
 
 #[test]
@@ -76,7 +81,7 @@ fn a_refusal_names_the_value_that_it_is_about() {
 
 #[test]
 fn a_number_without_words_is_still_named() {
-    for number in [0, 17, u32::MAX] {
+    for number in [0, 18, u32::MAX] {
         let words = Refusal::plain(number).to_string();
         assert!(words.ends_with(&format!(" (refused {number})")), "{words}");
     }

@@ -3,8 +3,8 @@
 use jugfjord::ffi::{Planned, ReadPlan, Transferred, Written};
 use jugfjord::rack::Disk;
 use jugfjord::reference::{
-    after, fast_after, fast_reader, fast_transfers, fast_writer, mixed_planner, reader, rolling,
-    transfers, writer,
+    after, fast_after, fast_reader, fast_terminal, fast_transfers, fast_writer, mixed_planner,
+    reader, rolling, terminal, transfers, writer,
 };
 use jugfjord::tables::{LentTables, TablesView};
 use jugfjord::transfers::{CountRow, Transfer};
@@ -25,6 +25,14 @@ pub const PLANNERS: &[(&str, Planner)] = &[
     ("rolling by insertion", rolling::plan_by_insertion),
     #[cfg(feature = "library")]
     ("library", wrap::plan),
+];
+
+/// Planners of the purser's terminal.
+pub const TERMINALS: &[(&str, Planner)] = &[
+    ("terminal", terminal::plan),
+    ("fast terminal", fast_terminal::plan),
+    #[cfg(feature = "library")]
+    ("library", wrap::plan_terminal),
 ];
 
 /// Planners that take an earlier plan's text behind the list.

@@ -48,7 +48,8 @@ impl Arguments {
     ) -> Result<(), Failure> {
         let name = command.name;
         let wrong = |words: String| Failure::usage(&format!("{name} {words}"), name);
-        if let Some(option) = command.options.iter().find(|option| word == **option) {
+        let mut known = command.options.iter().chain(command.switches);
+        if let Some(option) = known.find(|option| word == **option) {
             self.options.push(option);
             return Ok(());
         }

@@ -15,8 +15,10 @@ pub struct Command {
     uses: &'static [(&'static str, &'static str)],
     /// What its help says besides, in parts.
     more: &'static [&'static str],
-    /// The options it knows besides --help.
+    /// The options that choose among the uses.
     pub options: &'static [&'static str],
+    /// The options that each use may have besides, and --help.
+    pub switches: &'static [&'static str],
     /// The options with a file behind them, and what the file is called.
     pub file_options: &'static [(&'static str, &'static str)],
     /// Answers what it prints on standard output.
@@ -25,12 +27,15 @@ pub struct Command {
 
 impl Command {
     /// The files that it takes with these options, as the first use that has them names the files.
-    /// Files behind an option are not among them.
+    /// Switches choose no use, and files behind an option are not among them.
     pub fn files(&self, options: &[&str]) -> Vec<&'static str> {
         let mut uses = self.uses.iter().map(|(words, _)| words.split(' '));
         let found = uses.find(|words| {
             let is_in_use = |option: &&str| words.clone().any(|word| word == *option);
-            options.iter().all(is_in_use)
+            let mut chosen = options
+                .iter()
+                .filter(|option| self.options.contains(option));
+            chosen.all(is_in_use)
         });
         let words = found.into_iter().flatten();
         words.filter(|word| !word.starts_with('-')).collect()
@@ -47,9 +52,11 @@ const COMMANDS: [Command; 5] = [
                 "... --after PLAN",
                 "mark the copies that an earlier plan has",
             ),
+            ("... --terminal", "plan as the purser's terminal does"),
         ],
-        more: &[EARLIER_PLAN, LIST_FILE],
+        more: &[EARLIER_PLAN, TERMINAL, LIST_FILE],
         options: &["--records"],
+        switches: &["--terminal"],
         file_options: &[("--after", "PLAN")],
         run: planning::plan,
     },
@@ -58,6 +65,7 @@ const COMMANDS: [Command; 5] = [
         uses: &[("LIST", "print a list file as records for plan(1)")],
         more: &[LIST_FILE],
         options: &[],
+        switches: &[],
         file_options: &[],
         run: planning::records,
     },
@@ -66,6 +74,7 @@ const COMMANDS: [Command; 5] = [
         uses: &[("PLAN", "say whether a text is a plan text")],
         more: &[],
         options: &[],
+        switches: &[],
         file_options: &[],
         run: plan_file::check,
     },
@@ -74,6 +83,7 @@ const COMMANDS: [Command; 5] = [
         uses: &[("PLAN", "print a plan for people, by film and by disk")],
         more: &[SHOWN, COLOURS],
         options: &[],
+        switches: &[],
         file_options: &[],
         run: show::show,
     },
@@ -82,6 +92,7 @@ const COMMANDS: [Command; 5] = [
         uses: &[("OLD NEW", "print what to copy from plan to plan, by round")],
         more: &[TRANSFERS, COLOURS],
         options: &[],
+        switches: &[],
         file_options: &[],
         run: transfers::transfers,
     },
@@ -114,6 +125,12 @@ const EARLIER_PLAN: &str = "\
 With --after PLAN, the plan text of the week before, a copy is marked where the
 same disk held the same film then, as in (8 1 held): it need not be copied. The
 earlier rack may be any other.
+";
+
+const TERMINAL: &str = "\
+With --terminal the list is planned as on the purser's terminal: more than 8
+disks or more than 96 records are refused, and all else has the plan that it has
+without the option. The terminal takes no earlier plan.
 ";
 
 const LIST_FILE: &str = "\

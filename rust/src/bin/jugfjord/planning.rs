@@ -1,6 +1,9 @@
 //! `jugfjord plan` and `jugfjord records`: the plan text of a list, and a list as records.
 
-use jugfjord::rack::{Disk, Rack, MOST_BYTES, MOST_DISKS, MOST_RECORDS, MOST_SLOTS, MOST_STREAMS};
+use jugfjord::rack::{
+    Disk, Rack, MOST_BYTES, MOST_DISKS, MOST_RECORDS, MOST_SLOTS, MOST_STREAMS, RECORD,
+    TERMINAL_DISKS, TERMINAL_RECORDS,
+};
 use jugfjord::refusal::Refusal;
 use jugfjord::tables::OwnTables;
 use jugfjord::wrap;
@@ -11,15 +14,30 @@ use crate::list::{List, ListRack};
 use crate::plan_file::PlanFile;
 use crate::standard::Source;
 
+/// Who plans: the office, with the earlier plan that was given or without one, or the purser's
+/// terminal.
+enum Planner<'a> {
+    Office(Option<PlanFile<'a>>),
+    Terminal,
+}
+
 /// The plan text of the list, with marks where an earlier plan is given.
 pub fn plan(arguments: &Arguments) -> Result<Vec<u8>, Failure> {
+    let earlier = arguments.file_of("--after");
+    let is_terminal = arguments.has("--terminal");
+    if is_terminal && earlier.is_some() {
+        return Err(Failure::usage(
+            "plan expects no --after with --terminal",
+            "plan",
+        ));
+    }
     let list = List::asked(arguments)?;
-    let earlier = arguments
-        .file_of("--after")
-        .map(PlanFile::read)
-        .transpose()?;
-    plan_text(&list, earlier.as_ref()).map_err(|refusal| match (refusal.number, &earlier) {
-        (8 | 9, Some(earlier)) => earlier.refused(refusal),
+    let planner = match is_terminal {
+        true => Planner::Terminal,
+        false => Planner::Office(earlier.map(PlanFile::read).transpose()?),
+    };
+    plan_text(&list, &planner).map_err(|refusal| match (refusal.number, &planner) {
+        (8 | 9, Planner::Office(Some(earlier))) => earlier.refused(refusal),
         _ => {
             let at = place(arguments.file(0), &list, refusal);
             Failure::refused(format!("{at}: {}", explained(&list, refusal)))
@@ -39,14 +57,19 @@ pub fn records(arguments: &Arguments) -> Result<Vec<u8>, Failure> {
     })
 }
 
-/// The text that the library writes of the plan that it makes, after an earlier one or without.
-fn plan_text(list: &List, earlier: Option<&PlanFile>) -> Result<Vec<u8>, Refusal> {
+/// The text that the library writes of the plan that it makes.
+fn plan_text(list: &List, planner: &Planner) -> Result<Vec<u8>, Refusal> {
     let (rack, records) = (list.rack.entries(), &list.records);
     let numbered = |refusal| numbered(list, refusal);
-    let mut tables = OwnTables::for_any_plan();
-    let planned = match earlier {
-        Some(PlanFile { text, .. }) => wrap::plan_after(&rack, records, text, tables.lend()),
-        None => wrap::plan(&rack, records, tables.lend()),
+    let mut tables = match planner {
+        Planner::Office(_) => OwnTables::for_any_plan(),
+        Planner::Terminal => OwnTables::for_terminal(),
+    };
+    let lent = tables.lend();
+    let planned = match planner {
+        Planner::Office(Some(earlier)) => wrap::plan_after(&rack, records, &earlier.text, lent),
+        Planner::Office(None) => wrap::plan(&rack, records, lent),
+        Planner::Terminal => wrap::plan_terminal(&rack, records, lent),
     };
     let left = planned.accepted().map_err(numbered)?.left;
     let mut text = vec![0; MOST_BYTES];
@@ -75,6 +98,11 @@ fn place(source: &Source, list: &List, refusal: Refusal) -> String {
         4..=6 | 16 => record_line(second_of(refusal)),
         12 => disk_line(list, out_of_range_disk(&list.rack.entries())),
         13 => disk_line(list, second_of(refusal)),
+        17 if list.rack.entries().len() > TERMINAL_DISKS => match &list.rack {
+            ListRack::Equal(_) => disk_line(list, 0),
+            ListRack::Disks(_) => disk_line(list, TERMINAL_DISKS),
+        },
+        17 => record_line(TERMINAL_RECORDS),
         _ => None,
     };
     at_line(source, line)
@@ -111,6 +139,7 @@ fn explained(list: &List, refusal: Refusal) -> String {
     let record = second_of(refusal);
     let value = match refusal.number {
         1 | 12 | 13 => return format!("{} {}", wrong_rack(list, refusal), refusal.numbers()),
+        17 => return format!("{} {}", too_large(list), refusal.numbers()),
         2 => Some(list.records.len() as u64),
         4 | 6 | 16 => list.films().nth(record).map(u64::from),
         5 => list.demands().nth(record).map(u64::from),
@@ -135,6 +164,16 @@ fn wrong_rack(list: &List, refusal: Refusal) -> String {
         }
         ListRack::Disks(disks) => disk_out_of_range(disks),
     }
+}
+
+/// Of what there is more than on the purser's terminal.
+fn too_large(list: &List) -> String {
+    let disks = list.rack.entries().len();
+    if disks > TERMINAL_DISKS {
+        return format!("the rack has {disks} disks, more than the terminal's {TERMINAL_DISKS}");
+    }
+    let records = list.records.len() / RECORD;
+    format!("the list has {records} records, more than the terminal's {TERMINAL_RECORDS}")
 }
 
 /// Which numbers of the rack are out of which range.
