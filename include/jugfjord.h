@@ -49,9 +49,9 @@
 extern "C" {
 #endif
 
-#define JUGFJORD_VERSION "0.7.0"
+#define JUGFJORD_VERSION "0.8.0"
 #define JUGFJORD_VERSION_MAJOR 0
-#define JUGFJORD_VERSION_MINOR 7
+#define JUGFJORD_VERSION_MINOR 8
 #define JUGFJORD_VERSION_PATCH 0
 
 #define JUGFJORD_MOST_COPIES 2048 /* the slots of all disks */
@@ -60,6 +60,11 @@ extern "C" {
 #define JUGFJORD_MOST_TEXT 54800    /* bytes of the longest plan text */
 #define JUGFJORD_MOST_TRANSFERS 256 /* the slots of 8 disks */
 #define JUGFJORD_ENDS 9             /* the loader, number 0, and 8 disks */
+
+/* The most that the purser's terminal plans for. In its tables so many copy places, counts and left places are always enough. */
+#define JUGFJORD_TERMINAL_COPIES 256 /* the slots of 8 disks */
+#define JUGFJORD_TERMINAL_DISKS 8
+#define JUGFJORD_TERMINAL_RECORDS 96
 
 /* The refusals. `second` is the record for 4, 5, 6 and 16, the line for 9 and the disk for 13, each from 1; 0 for the others. */
 #define JUGFJORD_REFUSED_RACK_OUT_OF_RANGE 1   /* of the program `plan` alone, in the place of 12; no function here gives it */
@@ -78,6 +83,7 @@ extern "C" {
 #define JUGFJORD_REFUSED_TOO_MANY_DISKS 14     /* more than 8 disks in either text; given by jugfjord_transfers only */
 #define JUGFJORD_REFUSED_FIRST_LINES_DIFFER 15 /* the first lines of the two texts differ; given by jugfjord_transfers only */
 #define JUGFJORD_REFUSED_SERVICE_CLIP 16       /* film number 50,000 to 65,535 in a list; plan texts may have it */
+#define JUGFJORD_REFUSED_TERMINAL_TOO_SMALL 17 /* more than 8 disks or 96 records; given by jugfjord_plan_terminal only */
 
 /* The entry of a film with its viewers or its amount, without a mark. The film is at most 65,535: as a copy, 65,544 would be
  * film 8 with mark 1. */
@@ -146,6 +152,16 @@ struct jugfjord_planned jugfjord_plan(const struct jugfjord_disk *rack, size_t r
                                       uint64_t *copies, size_t copies_count,
                                       uint32_t *counts, size_t counts_count,
                                       uint64_t *left, size_t left_count);
+
+/* Plans on the purser's terminal, for up to 8 disks and 96 records: what is not refused has the answer and the tables of
+ * `jugfjord_plan`, and so its plan text is the office's, line by line. Tables of JUGFJORD_TERMINAL_COPIES,
+ * JUGFJORD_TERMINAL_DISKS and JUGFJORD_TERMINAL_RECORDS places are always enough. Refusals 12, 13 with the disk, 2, 3, 17, 7,
+ * then record by record 4, 16, 5, 6 with the record. Less than 80 KiB of stack. */
+struct jugfjord_planned jugfjord_plan_terminal(const struct jugfjord_disk *rack, size_t rack_count,
+                                               const uint8_t *list, size_t list_count,
+                                               uint64_t *copies, size_t copies_count,
+                                               uint32_t *counts, size_t counts_count,
+                                               uint64_t *left, size_t left_count);
 
 /* Plans as `jugfjord_plan` does, and marks each copy whose film the same disk held in an earlier plan. `earlier` is the text of
  * that plan; its rack may be any other, its viewers and marks do not matter, a copy with 0 viewers was held, a left film was

@@ -222,6 +222,44 @@ static void unequal_disks(void)
     expect_disk("the entry beyond", rack[2], 7, 7);
 }
 
+/* Plans so many records of film 0 on so many equal disks, as the purser's terminal does, with so many places. */
+static struct jugfjord_planned plan_on_terminal(size_t disks, size_t records, size_t places, size_t places_left)
+{
+    static uint8_t zeros[8 * RECORDS];
+    static uint64_t own_copies[JUGFJORD_TERMINAL_COPIES], own_left[RECORDS];
+    static uint32_t own_counts[JUGFJORD_MOST_DISKS];
+    jugfjord_equal_rack(rack, disks, 32, 64);
+    return jugfjord_plan_terminal(rack, disks, zeros, 8 * records, own_copies, places, own_counts, JUGFJORD_MOST_DISKS,
+                                  own_left, places_left);
+}
+
+/* The purser's terminal: nothing lent, its limits on both sides, the order of its refusals, and a plan. */
+static void terminal(void)
+{
+    struct jugfjord_planned p = jugfjord_plan_terminal(NULL, 0, NULL, 0, NULL, 0, NULL, 0, NULL, 0);
+    expect("terminal's plan of no rack", p.number, p.second, JUGFJORD_REFUSED_DISKS_OUT_OF_RANGE, 0);
+    p = plan_on_terminal(JUGFJORD_TERMINAL_DISKS, JUGFJORD_TERMINAL_RECORDS, JUGFJORD_TERMINAL_COPIES, JUGFJORD_TERMINAL_RECORDS);
+    expect("terminal's plan of 8 disks and 96 records", p.number, p.second, JUGFJORD_REFUSED_FILM_OUT_OF_RANGE, 1);
+    p = plan_on_terminal(JUGFJORD_TERMINAL_DISKS, 0, JUGFJORD_TERMINAL_COPIES - 1, 0);
+    expect("255 copy places for 8 disks of 32 slots", p.number, p.second, JUGFJORD_REFUSED_TABLES_TOO_SHORT, 0);
+    p = plan_on_terminal(1, JUGFJORD_TERMINAL_RECORDS, JUGFJORD_TERMINAL_COPIES, JUGFJORD_TERMINAL_RECORDS - 1);
+    expect("95 left places for 96 records", p.number, p.second, JUGFJORD_REFUSED_TABLES_TOO_SHORT, 0);
+    p = plan_on_terminal(JUGFJORD_TERMINAL_DISKS + 1, 0, 0, 0);
+    expect("terminal's plan of 9 disks", p.number, p.second, JUGFJORD_REFUSED_TERMINAL_TOO_SMALL, 0);
+    p = plan_on_terminal(1, JUGFJORD_TERMINAL_RECORDS + 1, 0, 0);
+    expect("terminal's plan of 97 records", p.number, p.second, JUGFJORD_REFUSED_TERMINAL_TOO_SMALL, 0);
+    p = plan_on_terminal(JUGFJORD_TERMINAL_DISKS + 1, RECORDS, 0, 0);
+    expect("terminal's plan of 9 disks and 1,025 records", p.number, p.second, JUGFJORD_REFUSED_TOO_MANY_RECORDS, 0);
+    p = plan_on_terminal(JUGFJORD_MOST_DISKS + 1, JUGFJORD_TERMINAL_RECORDS + 1, 0, 0);
+    expect("terminal's plan of 65 disks", p.number, p.second, JUGFJORD_REFUSED_DISKS_OUT_OF_RANGE, 0);
+    copies[0] = 5;
+    p = jugfjord_plan_terminal(one_disk, 1, film_7, sizeof film_7, copies, 1, counts, 1, left, 1);
+    expect("terminal's plan of film 7", p.number, p.second, 0, 0);
+    expect_number("its copy", copies[0], jugfjord_entry(7, 1));
+    expect_number("its left film", left[0], jugfjord_entry(7, 2));
+    expect_number("its viewers not served", p.unserved, 2);
+}
+
 /* The parts of an entry. */
 static void entries(void)
 {
@@ -538,6 +576,7 @@ int main(void)
     plan_of_shelf_films();
     racks();
     unequal_disks();
+    terminal();
     entries();
     plan_after_texts();
     marks();
