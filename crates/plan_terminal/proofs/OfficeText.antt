@@ -5,7 +5,7 @@ use mathlib.Core.List.{List}
 use Prim.Native.Nat.{ℕ}
 use lib.Dec.{leb}
 use lib.ListN.{length}
-use Rattle.refusal.specs.Verdict.{Verdict, given, unless, Numbers, afterwards}
+use Rattle.refusal.specs.Verdict.{Verdict, given, unless, afterwards}
 use Rattle.refusal.proofs.Verdicts.{unless-passes}
 use Rattle.placement.specs.Records.{recordCount, shapeJudged, recordsJudged}
 use Rattle.placement.specs.Tables.{Tables, roomFor, written}

@@ -2,7 +2,7 @@
 use mathlib.Core.Path.{_≡_, refl}
 use mathlib.Core.List.{map}
 use Rattle.placement.specs.Planning.{planning, tablesAfter}
-use Rattle.placement.specs.Cases.{Row, outcome, expectedOf, caseA}
+use Rattle.placement.specs.Cases.{outcome, expectedOf, caseA}
 use Rattle.plan_text.specs.Decimal.{decimal}
 use Rattle.plan_text.specs.Text.{textOf}
 use Rattle.plan_text.specs.WriteCall.{planOf}

@@ -1,7 +1,6 @@
 -- The promise of planning on the purser's terminal follows from its definition.
 use mathlib.Core.Path.{_≡_, refl, sym, ap, subst, _∙_}
 use mathlib.Core.Bool.{true, false}
-use mathlib.Core.List.{List}
 use Prim.Native.Nat.{ℕ, _≤_}
 use native.Mathlib.Omega.{arith}
 use Rattle.refusal.specs.Verdict.{Verdict, given, refused, Numbers}
@@ -15,14 +14,14 @@ use Rattle.placement.specs.PlanPromise.{PlanPromise}
 use Rattle.placement.proofs.Conjunctions.{false-true}
 use Rattle.placement.proofs.PlanPromise.{plan-promise}
 use Rattle.plan_text.specs.Text.{linesOf}
-use Rattle.plan_text.specs.WriteCall.{WriteCall, writing, spaceAfter, planOf}
+use Rattle.plan_text.specs.WriteCall.{planOf, writing, spaceAfter}
 use Rattle.planner.specs.declared.answer.Answer.the-variants.{Refused}
 use Rattle.planner.specs.Answers.{planNumbers}
 use Rattle.plan_terminal.specs.Terminal.{fitsTerminal, terminalVerdict, terminalPlanning, terminalTablesAfter}
-use Rattle.plan_terminal.specs.TerminalPromise.{writingOf, OfficeRoom, TerminalPromise}
+use Rattle.plan_terminal.specs.TerminalPromise.{writingOf, TerminalPromise}
 use Rattle.plan_terminal.proofs.TerminalChain.{fits-verdict, large-verdict, large-seventeen, given-fits, terminal-numbered}
 use Rattle.plan_terminal.proofs.OtherRefusals.{Other, terminal-enough}
-use Rattle.plan_terminal.proofs.OfficeText.{room-verdict, afterPlanning, plan-is, written-numbers, written-bytes}
+use Rattle.plan_terminal.proofs.OfficeText.{room-verdict, plan-is, written-numbers, written-bytes}
 
 module _ (c : Call) (t : Tables) where
   -- Planning's promise where its verdict is the terminal's.

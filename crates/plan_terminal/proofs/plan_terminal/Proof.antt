@@ -1,7 +1,7 @@
 -- `plan_terminal::plan_terminal` keeps the terminal's whole promise.
 use borrow.Author.Needs.{needs}
 use borrow.Author.Tests.{not-true, not-false}
-use mathlib.Core.Path.{_≡_, sym, _∙_}
+use mathlib.Core.Path.{sym, _∙_}
 use Rattle.placement.specs.Packed.{disksIn}
 use Rattle.placement.specs.Tables.{Tables, tables}
 use Rattle.placement.specs.Planning.{Call, call}

@@ -8,7 +8,8 @@ use Rattle.placement.proofs.LongRacks.{cut-promise}
 use Rattle.disk_entries.proofs.pack.Symbol as pack-def
 use Rattle.disk_entries.proofs.pack.Symbol.{name as #disk-entries·pack}
 use Rattle.disk_entries.proofs.pack.Met as pack-thm
-use Rattle.jugfjord.proofs.planning.PlanWalk.{Pack, Callee, plan-meets}
+use Rattle.jugfjord.proofs.planning.PlanCode.{Pack, Callee}
+use Rattle.jugfjord.proofs.planning.PlanWalk.{plan-meets}
 use Rattle.jugfjord.proofs.planning.plan_packed.Symbol as plan-packed-def
 use Rattle.jugfjord.proofs.planning.plan_packed.Symbol.{name as #plan-packed}
 use Rattle.jugfjord.proofs.planning.plan_packed.Met as plan-packed-thm

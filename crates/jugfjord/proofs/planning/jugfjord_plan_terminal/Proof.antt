@@ -8,7 +8,8 @@ use Rattle.plan_terminal.proofs.LongRacks.{cut-terminal}
 use Rattle.disk_entries.proofs.pack.Symbol as pack-def
 use Rattle.disk_entries.proofs.pack.Symbol.{name as #disk-entries·pack}
 use Rattle.disk_entries.proofs.pack.Met as pack-thm
-use Rattle.jugfjord.proofs.planning.PlanWalk.{Pack, Callee, plan-meets}
+use Rattle.jugfjord.proofs.planning.PlanCode.{Pack, Callee}
+use Rattle.jugfjord.proofs.planning.PlanWalk.{plan-meets}
 use Rattle.jugfjord.proofs.planning.plan_terminal_packed.Symbol as plan-terminal-packed-def
 use Rattle.jugfjord.proofs.planning.plan_terminal_packed.Symbol.{name as #plan-terminal-packed}
 use Rattle.jugfjord.proofs.planning.plan_terminal_packed.Met as plan-terminal-packed-thm
