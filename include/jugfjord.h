@@ -31,8 +31,8 @@
  * amount 0 may be a film: go by `counts` and by the number of left films.
  *
  * The mark of a copy is 1 where the same disk held the same film in an earlier plan, so that it need not be copied again; else
- * it is 0. `jugfjord_plan_after` sets it, `jugfjord_plan` sets none, writing shows it as `(8 1 held)` and reading takes it from
- * there. A left film has no mark.
+ * it is 0. `jugfjord_plan_after` sets it, the other plannings set none, writing shows it as `(8 1 held)` and reading takes it
+ * from there. A left film has no mark.
  *
  * `served` is the sum of viewers over all copies, `unserved` what is left in sum.
  *
@@ -61,7 +61,8 @@ extern "C" {
 #define JUGFJORD_MOST_TRANSFERS 256 /* the slots of 8 disks */
 #define JUGFJORD_ENDS 9             /* the loader, number 0, and 8 disks */
 
-/* The most that the purser's terminal plans for. In its tables so many copy places, counts and left places are always enough. */
+/* The purser's terminal plans for so many disks and records at most. So many copy places, counts and left places are always
+ * enough for its tables. */
 #define JUGFJORD_TERMINAL_COPIES 256 /* the slots of 8 disks */
 #define JUGFJORD_TERMINAL_DISKS 8
 #define JUGFJORD_TERMINAL_RECORDS 96
@@ -153,10 +154,11 @@ struct jugfjord_planned jugfjord_plan(const struct jugfjord_disk *rack, size_t r
                                       uint32_t *counts, size_t counts_count,
                                       uint64_t *left, size_t left_count);
 
-/* Plans on the purser's terminal, for up to 8 disks and 96 records: what is not refused has the answer and the tables of
- * `jugfjord_plan`, and so its plan text is the office's, line by line. Tables of JUGFJORD_TERMINAL_COPIES,
- * JUGFJORD_TERMINAL_DISKS and JUGFJORD_TERMINAL_RECORDS places are always enough. Refusals 12, 13 with the disk, 2, 3, 17, 7,
- * then record by record 4, 16, 5, 6 with the record. Less than 80 KiB of stack. */
+/* Plans as `jugfjord_plan` does, on the purser's terminal, which takes up to 8 disks and 96 records: more of either is refused
+ * 17. The arguments are those of `jugfjord_plan`, and what is not refused 17 has its answer and its tables, so that the plan
+ * text is the same, line by line. Tables of JUGFJORD_TERMINAL_COPIES, JUGFJORD_TERMINAL_DISKS and JUGFJORD_TERMINAL_RECORDS
+ * places are always enough. Refusals 12, 13 with the disk, 2, 3, 17, 7, then record by record 4, 16, 5, 6 with the record. Less
+ * than 80 KiB of stack. */
 struct jugfjord_planned jugfjord_plan_terminal(const struct jugfjord_disk *rack, size_t rack_count,
                                                const uint8_t *list, size_t list_count,
                                                uint64_t *copies, size_t copies_count,

@@ -222,15 +222,31 @@ static void unequal_disks(void)
     expect_disk("the entry beyond", rack[2], 7, 7);
 }
 
-/* Plans so many records of film 0 on so many equal disks, as the purser's terminal does, with so many places. */
-static struct jugfjord_planned plan_on_terminal(size_t disks, size_t records, size_t places, size_t places_left)
+/* Plans so many records of film 0 on so many equal disks, as the purser's terminal does, with so many places. Every place has
+ * held 5, and a refusal leaves it so. */
+static struct jugfjord_planned plan_on_terminal(size_t disks, size_t bytes, size_t places, size_t places_left)
 {
     static uint8_t zeros[8 * RECORDS];
-    static uint64_t own_copies[JUGFJORD_TERMINAL_COPIES], own_left[RECORDS];
-    static uint32_t own_counts[JUGFJORD_MOST_DISKS];
-    jugfjord_equal_rack(rack, disks, 32, 64);
-    return jugfjord_plan_terminal(rack, disks, zeros, 8 * records, own_copies, places, own_counts, JUGFJORD_MOST_DISKS,
-                                  own_left, places_left);
+    uint64_t own_copies[JUGFJORD_TERMINAL_COPIES], own_left[JUGFJORD_TERMINAL_RECORDS];
+    uint32_t own_counts[JUGFJORD_TERMINAL_DISKS];
+    size_t changed = 0;
+    for (size_t i = 0; i < JUGFJORD_TERMINAL_COPIES; i++) own_copies[i] = 5;
+    for (size_t i = 0; i < JUGFJORD_TERMINAL_DISKS; i++) own_counts[i] = 5;
+    for (size_t i = 0; i < JUGFJORD_TERMINAL_RECORDS; i++) own_left[i] = 5;
+    struct jugfjord_planned p = jugfjord_plan_terminal(rack, disks, zeros, bytes, own_copies, places, own_counts,
+                                                       JUGFJORD_TERMINAL_DISKS, own_left, places_left);
+    for (size_t i = 0; i < JUGFJORD_TERMINAL_COPIES; i++) changed += own_copies[i] != 5;
+    for (size_t i = 0; i < JUGFJORD_TERMINAL_DISKS; i++) changed += own_counts[i] != 5;
+    for (size_t i = 0; i < JUGFJORD_TERMINAL_RECORDS; i++) changed += own_left[i] != 5;
+    expect_number("places changed by a refusal of the terminal", changed, 0);
+    return p;
+}
+
+/* What the terminal answers on so many disks of 32 slots and so many bytes, with all places that it may need. */
+static void expect_on_terminal(const char *call, size_t disks, size_t bytes, uint32_t due, uint32_t due_second)
+{
+    struct jugfjord_planned p = plan_on_terminal(disks, bytes, JUGFJORD_TERMINAL_COPIES, JUGFJORD_TERMINAL_RECORDS);
+    expect(call, p.number, p.second, due, due_second);
 }
 
 /* The purser's terminal: nothing lent, its limits on both sides, the order of its refusals, and a plan. */
@@ -238,20 +254,23 @@ static void terminal(void)
 {
     struct jugfjord_planned p = jugfjord_plan_terminal(NULL, 0, NULL, 0, NULL, 0, NULL, 0, NULL, 0);
     expect("terminal's plan of no rack", p.number, p.second, JUGFJORD_REFUSED_DISKS_OUT_OF_RANGE, 0);
-    p = plan_on_terminal(JUGFJORD_TERMINAL_DISKS, JUGFJORD_TERMINAL_RECORDS, JUGFJORD_TERMINAL_COPIES, JUGFJORD_TERMINAL_RECORDS);
-    expect("terminal's plan of 8 disks and 96 records", p.number, p.second, JUGFJORD_REFUSED_FILM_OUT_OF_RANGE, 1);
-    p = plan_on_terminal(JUGFJORD_TERMINAL_DISKS, 0, JUGFJORD_TERMINAL_COPIES - 1, 0);
+    jugfjord_equal_rack(rack, JUGFJORD_MOST_DISKS + 1, 32, 64);
+    expect_on_terminal("8 disks and 96 records", 8, 8 * 96, JUGFJORD_REFUSED_FILM_OUT_OF_RANGE, 1);
+    expect_on_terminal("9 disks", 9, 0, JUGFJORD_REFUSED_TERMINAL_TOO_SMALL, 0);
+    expect_on_terminal("97 records", 1, 8 * 97, JUGFJORD_REFUSED_TERMINAL_TOO_SMALL, 0);
+    expect_on_terminal("97 records and one byte", 1, 8 * 97 + 1, JUGFJORD_REFUSED_LIST_LENGTH, 0);
+    expect_on_terminal("9 disks and 7 bytes", 9, 7, JUGFJORD_REFUSED_LIST_LENGTH, 0);
+    expect_on_terminal("9 disks and 1,025 records", 9, 8 * RECORDS, JUGFJORD_REFUSED_TOO_MANY_RECORDS, 0);
+    expect_on_terminal("65 disks and 7 bytes", JUGFJORD_MOST_DISKS + 1, 7, JUGFJORD_REFUSED_DISKS_OUT_OF_RANGE, 0);
+    rack[8].streams = 65;
+    expect_on_terminal("9 disks of which one has another ratio", 9, 7, JUGFJORD_REFUSED_RATIO_DIFFERS, 9);
+    rack[8].streams = 64;
+    p = plan_on_terminal(8, 0, JUGFJORD_TERMINAL_COPIES - 1, 0);
     expect("255 copy places for 8 disks of 32 slots", p.number, p.second, JUGFJORD_REFUSED_TABLES_TOO_SHORT, 0);
-    p = plan_on_terminal(1, JUGFJORD_TERMINAL_RECORDS, JUGFJORD_TERMINAL_COPIES, JUGFJORD_TERMINAL_RECORDS - 1);
+    p = plan_on_terminal(1, 8 * 96, JUGFJORD_TERMINAL_COPIES, JUGFJORD_TERMINAL_RECORDS - 1);
     expect("95 left places for 96 records", p.number, p.second, JUGFJORD_REFUSED_TABLES_TOO_SHORT, 0);
-    p = plan_on_terminal(JUGFJORD_TERMINAL_DISKS + 1, 0, 0, 0);
-    expect("terminal's plan of 9 disks", p.number, p.second, JUGFJORD_REFUSED_TERMINAL_TOO_SMALL, 0);
-    p = plan_on_terminal(1, JUGFJORD_TERMINAL_RECORDS + 1, 0, 0);
-    expect("terminal's plan of 97 records", p.number, p.second, JUGFJORD_REFUSED_TERMINAL_TOO_SMALL, 0);
-    p = plan_on_terminal(JUGFJORD_TERMINAL_DISKS + 1, RECORDS, 0, 0);
-    expect("terminal's plan of 9 disks and 1,025 records", p.number, p.second, JUGFJORD_REFUSED_TOO_MANY_RECORDS, 0);
-    p = plan_on_terminal(JUGFJORD_MOST_DISKS + 1, JUGFJORD_TERMINAL_RECORDS + 1, 0, 0);
-    expect("terminal's plan of 65 disks", p.number, p.second, JUGFJORD_REFUSED_DISKS_OUT_OF_RANGE, 0);
+    p = plan_on_terminal(9, 8 * 97, 0, 0);
+    expect("9 disks and 97 records without places", p.number, p.second, JUGFJORD_REFUSED_TERMINAL_TOO_SMALL, 0);
     copies[0] = 5;
     p = jugfjord_plan_terminal(one_disk, 1, film_7, sizeof film_7, copies, 1, counts, 1, left, 1);
     expect("terminal's plan of film 7", p.number, p.second, 0, 0);

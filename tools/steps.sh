@@ -7,7 +7,7 @@ made_with='rattle-kit-5b-plain logic 097e4c862dff5811' # what `rt version` print
 
 # Seconds that each crate's proof takes on two idle cores. Of a crate that is not listed no time is said.
 declare -A seconds_of=(
-    [refusal]=4 [placement]=14 [demand_list]=8 [disk_entries]=10 [planner]=47 [plan_text]=5 [well_formed]=10 [writer]=36
+    [refusal]=4 [placement]=14 [demand_list]=8 [disk_entries]=10 [planner]=47 [plan_terminal]=9 [plan_text]=5 [well_formed]=10 [writer]=36
     [reader]=50 [plan_after]=26 [transfer_schedule]=4 [transfers]=48 [plan_output]=15 [jugfjord]=28 [plan]=20
 )
 

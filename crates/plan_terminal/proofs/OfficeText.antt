@@ -2,19 +2,22 @@
 use mathlib.Core.Path.{_≡_, sym, ap, _∙_}
 use mathlib.Core.Bool.{true}
 use mathlib.Core.List.{List}
-use Prim.Native.Nat.{ℕ}
+use Prim.Native.Nat.{ℕ, _≤_}
+use borrow.Author.Tests.{le-leb}
 use lib.Dec.{leb}
 use lib.ListN.{length}
-use Rattle.refusal.specs.Verdict.{Verdict, given, unless, afterwards}
+use Rattle.refusal.specs.Verdict.{Verdict, given, unless}
 use Rattle.refusal.proofs.Verdicts.{unless-passes}
 use Rattle.placement.specs.Records.{recordCount, shapeJudged, recordsJudged}
 use Rattle.placement.specs.Tables.{Tables, roomFor, written}
 use Rattle.placement.specs.Planning.{Call, rackJudged, verdict, planIn, holdingCall}
 use Rattle.placement.specs.WellFormed.{CallWellFormed}
+use Rattle.placement.proofs.Chains.{rack-passes}
 use Rattle.placement.proofs.Calls.{call-judged, call-wellFormed}
 use Rattle.plan_text.specs.Text.{textOf}
-use Rattle.plan_text.specs.WriteCall.{WriteCall, writeCall, planOf, roomStated, wellFormedCall, writeVerdict, writeAnswer, writing, spaceAfter}
+use Rattle.plan_text.specs.WriteCall.{WriteCall, writeCall, planOf, roomStated, wellFormedCall, writeVerdict, writeAnswer, spaceGiven, writing, spaceAfter}
 use Rattle.plan_text.proofs.Planned.{planned-room, planned-held, planned-wellFormed}
+use Rattle.plan_terminal.specs.TerminalPromise.{Writes}
 
 module _ (c : Call) where
   -- What is judged but for the room.
@@ -35,12 +38,6 @@ module _ (c : Call) where
   abbrev pub afterPlanning : Tables → WriteCall
   afterPlanning t = writeCall (c .rack) (holdingCall c t) (length (planIn c .left))
 
-  -- What a space comes to, of which the text of the plan decides.
-  abbrev fitting : List ℕ → Verdict ℕ
-  fitting space =
-      let text = textOf (planIn c) in
-      rackJudged (c .rack) (unless (leb (length text) (length space)) 11 0 (given (length text)))
-
   module _ (t : Tables) (e : verdict c t ≡ given tt) where
     formed : CallWellFormed c
     formed = call-wellFormed c t e
@@ -49,21 +46,28 @@ module _ (c : Call) where
     pub plan-is : planOf (afterPlanning t) ≡ planIn c
     plan-is = planned-held c t (formed .plan)
 
-    verdict-is : (space : List ℕ) → writeVerdict (afterPlanning t) space ≡ fitting space
-    verdict-is space =
-        ap (rackJudged (c .rack))
-        (unless-passes (roomStated (afterPlanning t)) 7 0 _ (planned-room c t (call-judged c t e .2) (formed .leftMost))
-        ∙ unless-passes (wellFormedCall (afterPlanning t)) 10 0 _ (planned-wellFormed c t (formed .plan))
-        ∙ ap (λ (text : List ℕ). unless (leb (length text) (length space)) 11 0 (given (length text))) (ap textOf plan-is))
+    -- and nothing is refused where the space has room for the text.
+    module _ (space : List ℕ) (room : length (textOf (planIn c)) ≤ length space) where
+      abbrev fits : List ℕ → Verdict ℕ
+      fits text = unless (leb (length text) (length space)) 11 0 (given (length text))
 
-    -- and so writing answers and leaves what the call alone decides.
-    pub written-numbers : (space : List ℕ) → writing (afterPlanning t) space ≡ writeAnswer (fitting space)
-    unfolding writing
-    written-numbers space = ap writeAnswer (verdict-is space)
+      verdict-is : writeVerdict (afterPlanning t) space ≡ given (length (textOf (planIn c)))
+      verdict-is =
+          rack-passes (c .rack) _ (formed .rack)
+          ∙ unless-passes (roomStated (afterPlanning t)) 7 0 _ (planned-room c t (call-judged c t e .2) (formed .leftMost))
+          ∙ unless-passes (wellFormedCall (afterPlanning t)) 10 0 (fits (textOf (planOf (afterPlanning t)))) (planned-wellFormed c t (formed .plan))
+          ∙ ap fits (ap textOf plan-is)
+          ∙ unless-passes (leb (length (textOf (planIn c))) (length space)) 11 0 _ (le-leb (length (textOf (planIn c))) (length space) room)
 
-    pub written-bytes :
-        (space : List ℕ) → spaceAfter (afterPlanning t) space ≡ afterwards space (λ n. written (textOf (planIn c)) space) (fitting space)
-    unfolding spaceAfter
-    written-bytes space =
-        ap (λ (v : Verdict ℕ). afterwards space (λ n. written (textOf (planOf (afterPlanning t))) space) v) (verdict-is space)
-        ∙ ap (λ (text : List ℕ). afterwards space (λ n. written text space) (fitting space)) (ap textOf plan-is)
+      written-numbers : writing (afterPlanning t) space ≡ record { refusal = 0; second = 0; values = length (textOf (planIn c)) }
+      unfolding writing
+      written-numbers = ap writeAnswer verdict-is
+
+      written-bytes : spaceAfter (afterPlanning t) space ≡ written (textOf (planIn c)) space
+      unfolding spaceAfter
+      written-bytes =
+          ap (spaceGiven (afterPlanning t) space) verdict-is ∙ ap (λ (text : List ℕ). written text space) (ap textOf plan-is)
+
+    -- So writing gives the text of the plan.
+    pub planned-writes : Writes (textOf (planIn c)) (afterPlanning t)
+    planned-writes = record { answers = written-numbers; bytes = written-bytes }

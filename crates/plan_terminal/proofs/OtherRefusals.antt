@@ -69,14 +69,16 @@ other-answer m c (refused number second) some other e = other e
 
 module _ (c : Call) (t : Tables) where
   -- "17, only on the terminal."
-  pub office-never : planning c t .refusal ≡ 17 → ⊥
-  unfolding planning
-  office-never =
-      other-answer 17 c (verdict c t) (omega arith)
-      (other-rack 17 (c .rack) _ (λ e. omega arith) (λ e. omega arith)
+  pub office-other : Other 17 (verdict c t)
+  office-other =
+      other-rack 17 (c .rack) _ (λ e. omega arith) (λ e. omega arith)
       (λ ranges. other-shape 17 (c .list) _ (λ e. omega arith) (λ e. omega arith)
       (other-unless 17 (roomFor (c .rack) (recordCount (c .list)) t) 7 0 _ (λ e. omega arith)
-      (λ room. other-records 17 (λ e. omega arith) (λ e. omega arith) (λ e. omega arith) (λ e. omega arith) [] 1 (recordsIn c)))))
+      (λ room. other-records 17 (λ e. omega arith) (λ e. omega arith) (λ e. omega arith) (λ e. omega arith) [] 1 (recordsIn c))))
+
+  pub office-never : planning c t .refusal ≡ 17 → ⊥
+  unfolding planning
+  office-never = other-answer 17 c (verdict c t) (omega arith) office-other
 
   module _
       (copies : terminalDisks * mostSlots ≤ length (t .copies)) (counts : terminalDisks ≤ length (t .counts)) (left : terminalRecords ≤ length (t .left))

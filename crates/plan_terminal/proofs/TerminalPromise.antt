@@ -1,5 +1,5 @@
 -- The promise of planning on the purser's terminal follows from its definition.
-use mathlib.Core.Path.{_≡_, refl, sym, ap, subst, _∙_}
+use mathlib.Core.Path.{_≡_, refl, sym, ap, ap₂, subst, _∙_}
 use mathlib.Core.Bool.{true, false}
 use Prim.Native.Nat.{ℕ, _≤_}
 use native.Mathlib.Omega.{arith}
@@ -9,19 +9,20 @@ use Rattle.refusal.specs.declared.Refusal.{Refusal}
 use Rattle.refusal.proofs.Verdicts.{Numbered}
 use Rattle.placement.specs.Records.{shapeJudged}
 use Rattle.placement.specs.Tables.{Tables}
-use Rattle.placement.specs.Planning.{Call, PlanSums, rackJudged, verdict, planning, tablesAfter, answerFor, tablesFor, holdingCall}
+use Rattle.placement.specs.Planning.{Call, PlanSums, rackJudged, verdict, planIn, planning, tablesAfter, answerFor, tablesFor, holdingCall}
 use Rattle.placement.specs.PlanPromise.{PlanPromise}
 use Rattle.placement.proofs.Conjunctions.{false-true}
+use Rattle.placement.proofs.Tests.{by-test}
 use Rattle.placement.proofs.PlanPromise.{plan-promise}
-use Rattle.plan_text.specs.Text.{linesOf}
-use Rattle.plan_text.specs.WriteCall.{planOf, writing, spaceAfter}
+use Rattle.plan_text.specs.Text.{linesOf, textOf}
+use Rattle.plan_text.specs.WriteCall.{WriteCall, writeCall, planOf}
 use Rattle.planner.specs.declared.answer.Answer.the-variants.{Refused}
 use Rattle.planner.specs.Answers.{planNumbers}
 use Rattle.plan_terminal.specs.Terminal.{fitsTerminal, terminalVerdict, terminalPlanning, terminalTablesAfter}
-use Rattle.plan_terminal.specs.TerminalPromise.{writingOf, TerminalPromise}
-use Rattle.plan_terminal.proofs.TerminalChain.{fits-verdict, large-verdict, large-seventeen, given-fits, terminal-numbered}
-use Rattle.plan_terminal.proofs.OtherRefusals.{Other, terminal-enough}
-use Rattle.plan_terminal.proofs.OfficeText.{room-verdict, plan-is, written-numbers, written-bytes}
+use Rattle.plan_terminal.specs.TerminalPromise.{Writes, TerminalPromise}
+use Rattle.plan_terminal.proofs.TerminalChain.{fits-verdict, large-verdict, large-seventeen, given-fits, terminal-numbered, not-seventeen}
+use Rattle.plan_terminal.proofs.OtherRefusals.{Other, office-other, terminal-enough}
+use Rattle.plan_terminal.proofs.OfficeText.{room-verdict, afterPlanning, plan-is, planned-writes}
 
 module _ (c : Call) (t : Tables) where
   -- Planning's promise where its verdict is the terminal's.
@@ -29,7 +30,7 @@ module _ (c : Call) (t : Tables) where
   unfolding planning tablesAfter
   same-promise v e = plan-promise c t (tablesFor c t v) (answerFor c v) (sym (ap (answerFor c) e)) (sym (ap (tablesFor c t) e))
 
-  -- A refusal keeps it,
+  -- A refusal keeps the terminal's,
   refused-keeps : (n s : ℕ) → terminalVerdict c t ≡ refused n s → TerminalPromise c t t (answerFor c (refused n s))
   unfolding terminalPlanning terminalTablesAfter
   refused-keeps n s e =
@@ -41,21 +42,28 @@ module _ (c : Call) (t : Tables) where
         refusesSize = λ rack whole few large.
             let seventeen : refused n s ≡ refused 17 0 = sym e ∙ large-verdict c t large ∙ large-seventeen c rack whole few in
             (ap (λ (v : Verdict (Unit {0})). answerFor c v .refusal) seventeen, ap (λ (v : Verdict (Unit {0})). answerFor c v .second) seventeen);
-        within = λ fits. same-promise (refused n s) (sym (fits-verdict c t fits) ∙ e);
-        office = λ h. absurd (omega (arith, some, h));
+        tooLarge = λ seventeen.
+            by-test (fitsTerminal c) (λ fits. absurd (subst (Other 17) (sym (fits-verdict c t fits) ∙ e) (office-other c t) seventeen)) (λ large. large);
+        office = λ other. same-promise (refused n s) (not-seventeen c t n s e other);
+        answers = λ h. absurd (omega (arith, some, h));
         lines = λ h. absurd (omega (arith, some, h));
         text = λ h. absurd (omega (arith, some, h));
+        officeText = λ h. absurd (omega (arith, some, h));
         enough = λ copies counts left. subst (Other 7) e (terminal-enough c t copies counts left);
       }
 
-  -- The office's tables after a call that is planned.
-  after-is : (office : Tables) → verdict c office ≡ given tt → tablesAfter c office ≡ holdingCall c office
-  unfolding tablesAfter
-  after-is office e = ap (tablesFor c office) e
+  -- What the office answers and leaves with tables for which the call is planned.
+  module _ (other : Tables) (there : verdict c other ≡ given tt) where
+    answer-is : planning c other ≡ answerFor c (given tt)
+    unfolding planning
+    answer-is = ap (answerFor c) there
 
-  answer-is : (office : Tables) → verdict c office ≡ given tt → planning c office ≡ answerFor c (given tt)
-  unfolding planning
-  answer-is office e = ap (answerFor c) e
+    after-is : tablesAfter c other ≡ holdingCall c other
+    unfolding tablesAfter
+    after-is = ap (tablesFor c other) there
+
+    writing-is : writeCall (c .rack) (tablesAfter c other) (planning c other .values .left) ≡ afterPlanning c other
+    writing-is = ap₂ (λ (x : Tables) (a : Numbers PlanSums). writeCall (c .rack) x (a .values .left)) after-is answer-is
 
   -- and so does a plan.
   planned-keeps : terminalVerdict c t ≡ given tt → TerminalPromise c t (holdingCall c t) (answerFor c (given tt))
@@ -68,21 +76,16 @@ module _ (c : Call) (t : Tables) where
         tables = sym (ap (tablesFor c t) e);
         unchanged = λ h. absurd (omega (arith, h));
         refusesSize = λ rack whole few large. false-true (sym large ∙ fits);
-        within = λ fits′. same-promise (given tt) here;
+        tooLarge = λ seventeen. absurd (omega (arith, seventeen));
         office = λ h. same-promise (given tt) here;
-        lines = λ h office room.
-            let there : verdict c office ≡ given tt = room-verdict c t office here room in (
-              answer-is office there,
-              ap (λ (x : Tables). linesOf (planOf (writingOf c x (answerFor c (given tt))))) (after-is office there)
-                  ∙ ap linesOf (plan-is c office there ∙ sym (plan-is c t here)),
-            );
-        text = λ h office room space.
-            let there : verdict c office ≡ given tt = room-verdict c t office here room in (
-              ap (λ (x : Tables). writing (writingOf c x (answerFor c (given tt))) space) (after-is office there)
-                  ∙ written-numbers c office there space ∙ sym (written-numbers c t here space),
-              ap (λ (x : Tables). spaceAfter (writingOf c x (answerFor c (given tt))) space) (after-is office there)
-                  ∙ written-bytes c office there space ∙ sym (written-bytes c t here space),
-            );
+        answers = λ h other room. answer-is other (room-verdict c t other here room);
+        lines = λ h other room.
+            let there : verdict c other ≡ given tt = room-verdict c t other here room in
+            ap (λ (w : WriteCall). linesOf (planOf w)) (writing-is other there) ∙ ap linesOf (plan-is c other there ∙ sym (plan-is c t here));
+        text = λ h. planned-writes c t here;
+        officeText = λ h other room.
+            let there : verdict c other ≡ given tt = room-verdict c t other here room in
+            subst (Writes (textOf (planIn c))) (sym (writing-is other there)) (planned-writes c other there);
         enough = λ copies counts left seven. absurd (omega (arith, seven));
       }
 

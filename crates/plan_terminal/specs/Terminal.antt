@@ -15,20 +15,20 @@ terminalDisks = 8
 abbrev pub terminalRecords : ℕ
 terminalRecords = 96
 
--- They hold the rack and the list of a call.
+-- The terminal's tables hold the rack and the list of a call.
 abbrev pub fitsTerminal : Call → Bool
 fitsTerminal c = leb (length (c .rack)) terminalDisks && leb (recordCount (c .list)) terminalRecords
 
 -- 17, more than 8 disks or more than 96 records; then what comes next.
-abbrev pub terminalJudged : {A : Type 0} → Call → Verdict A → Verdict A
-terminalJudged c following = unless (fitsTerminal c) 17 0 following
+abbrev pub sizeJudged : {A : Type 0} → Call → Verdict A → Verdict A
+sizeJudged c following = unless (fitsTerminal c) 17 0 following
 
 -- The refusals of planning on the terminal: the office's, and 17 "after 3 and before 7".
 abbrev pub terminalVerdict : Call → Tables → Verdict (Unit {0})
 terminalVerdict c t =
     rackJudged (c .rack)
     (shapeJudged (c .list)
-    (terminalJudged c
+    (sizeJudged c
     (roomJudged (c .rack) (recordCount (c .list)) t
     (recordsJudged (c .list) (given tt)))))
 

@@ -50,16 +50,19 @@ sizeRefusals =
     ∷ asks (rackOf 64 32 1) (zeros 1024) (sevens 2048 64 1024) (refuses 17 0)
     ∷ []
 
--- It comes after 12, 13, 2 and 3, and before 7 and what is found record by record.
+-- It comes after 12, 13, 2 and 3, which keep their order, and before 7 and what is found record by record. 777 bytes are 97 records and one byte.
 abbrev pub sizeOrder : List Row
 sizeOrder =
-    asks (rackOf 65 1 1) (zeros 97) (sevens 0 0 0) (refuses 12 0)
-    ∷ asks [] (zeros 97) (sevens 0 0 0) (refuses 12 0)
-    ∷ asks lastOther (zeros 97) (sevens 0 0 0) (refuses 13 9)
-    ∷ asks (rackOf 9 1 1) (replicate 7 0) (sevens 0 0 0) (refuses 2 0)
-    ∷ asks (rackOf 9 1 1) (zeros 1025) (sevens 0 0 0) (refuses 3 0)
-    ∷ asks (rackOf 1 1 1) (zeros 1025) (sevens 0 0 0) (refuses 3 0)
-    ∷ asks (rackOf 9 1 1) [] (sevens 0 0 0) (refuses 17 0)
+    asks (rackOf 65 1 1) (replicate 777 0) (sevens 1 1 1) (refuses 12 0)
+    ∷ asks [] (zeros 97) (sevens 1 1 1) (refuses 12 0)
+    ∷ asks lastOther (zeros 1025) (sevens 1 1 1) (refuses 13 9)
+    ∷ asks lastOther (replicate 7 0) (sevens 1 1 1) (refuses 13 9)
+    ∷ asks (rackOf 9 1 1) (replicate 7 0) (sevens 1 1 1) (refuses 2 0)
+    ∷ asks (rackOf 9 1 1) (replicate 8201 0) (sevens 1 1 1) (refuses 2 0)
+    ∷ asks (rackOf 1 1 1) (replicate 777 0) (sevens 1 1 97) (refuses 2 0)
+    ∷ asks (rackOf 9 1 1) (zeros 1025) (sevens 1 1 1) (refuses 3 0)
+    ∷ asks (rackOf 1 1 1) (zeros 1025) (sevens 1 1 1) (refuses 3 0)
+    ∷ asks (rackOf 9 1 1) [] (sevens 1 1 1) (refuses 17 0)
     ∷ asks (rackOf 1 1 1) (zeros 97) (sevens 1 1 96) (refuses 17 0)
     ∷ asks (rackOf 1 1 1) (zeros 97) (sevens 1 1 97) (refuses 17 0)
     ∷ []
@@ -68,11 +71,12 @@ sizeOrder =
 abbrev pub terminalRows : List Row
 terminalRows = cases ++ (unequal ++ (limits ++ (sizeRefusals ++ sizeOrder)))
 
--- "The office limits of 1,024 and 64 remain for the office": there the same calls are planned, or lead on to what comes next.
+-- "The office limits of 1,024 and 64 remain for the office": there such calls are planned, or lead on to what comes next.
 abbrev pub officeRows : List Row
 officeRows =
     asks (rackOf 9 1 1) [] (sevens 10 10 1) (plans 0 0 0 (replicate 9 none) (replicate 9 0) [])
+    ∷ asks (rackOf 1 1 1) (bytesOf (films 1 97)) (sevens 2 2 98) (plans 1 96 96 (films 1 1) (1 ∷ []) (films 2 96 ++ (none ∷ [])))
     ∷ asks (rackOf 9 1 1) (zeros 97) (sevens 9 9 97) (refuses 4 1)
     ∷ asks (rackOf 64 32 1) (zeros 1024) (sevens 2048 64 1024) (refuses 4 1)
-    ∷ asks (rackOf 9 1 1) [] (sevens 0 0 0) (refuses 7 0)
+    ∷ asks (rackOf 9 1 1) [] (sevens 1 1 1) (refuses 7 0)
     ∷ []

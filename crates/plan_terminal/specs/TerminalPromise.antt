@@ -7,20 +7,18 @@ use lib.ListN.{length}
 use Rattle.refusal.specs.Verdict.{Numbers}
 use Rattle.placement.specs.Rack.{rackAccepted, mostSlots, mostRecords}
 use Rattle.placement.specs.Records.{recordCount}
-use Rattle.placement.specs.Tables.{Tables, roomFor}
-use Rattle.placement.specs.Planning.{Call, PlanSums, planning, tablesAfter}
+use Rattle.placement.specs.Tables.{Tables, roomFor, written}
+use Rattle.placement.specs.Held.{planHeld}
+use Rattle.placement.specs.Planning.{Call, PlanSums, planIn, planning, tablesAfter}
 use Rattle.placement.specs.PlanPromise.{PlanPromise}
-use Rattle.plan_text.specs.Text.{linesOf}
-use Rattle.plan_text.specs.WriteCall.{WriteCall, writeCall, planOf, writing, spaceAfter}
+use Rattle.plan_text.specs.Text.{linesOf, textOf}
+use Rattle.plan_text.specs.WriteCall.{WriteCall, writeCall, writing, spaceAfter}
 use Rattle.plan_terminal.specs.Terminal.{terminalDisks, terminalRecords, fitsTerminal, terminalPlanning, terminalTablesAfter}
 
--- The call that writes the plan in the tables, with the number of left films that planning answered.
-abbrev pub writingOf : Call → Tables → Numbers PlanSums → WriteCall
-writingOf c t answer = writeCall (c .rack) t (answer .values .left)
-
--- Tables of the office with room for a call: of any length that planning does not refuse 7.
-abbrev pub OfficeRoom : Call → Tables → Type 0
-OfficeRoom c office = roomFor (c .rack) (recordCount (c .list)) office ≡ true
+-- Writing gives this text: in every space with room for it the answer is its length, its bytes stand in front and those after it are untouched.
+pub record Writes (text : List ℕ) (w : WriteCall) : Type 0 where
+  pub answers : (space : List ℕ) → length text ≤ length space → writing w space ≡ record { refusal = 0; second = 0; values = length text }
+  pub bytes : (space : List ℕ) → length text ≤ length space → spaceAfter w space ≡ written text space
 
 -- A call, the lent tables at entry and at exit, and the numbers of the answer.
 pub record TerminalPromise (call : Call) (entry exit : Tables) (answer : Numbers PlanSums) : Type 0 where
@@ -29,24 +27,27 @@ pub record TerminalPromise (call : Call) (entry exit : Tables) (answer : Numbers
   pub tables : exit ≡ terminalTablesAfter call entry
   -- a refusal changes no lent table
   pub unchanged : 1 ≤ answer .refusal → exit ≡ entry
-  -- more than 8 disks or more than 96 records are 17 where neither the rack nor the list's shape is refused
+  -- 17 where neither the rack nor the list's shape is refused, and there are more than 8 disks or more than 96 records
   pub refusesSize :
       rackAccepted (call .rack) ≡ true → length (call .list) % 8 ≡ 0 → recordCount (call .list) ≤ mostRecords → fitsTerminal call ≡ false
       → (answer .refusal ≡ 17) × (answer .second ≡ 0)
-  -- up to 8 disks and 96 records, planning keeps its whole promise with this answer and these tables, refusals too
-  pub within : fitsTerminal call ≡ true → PlanPromise call entry exit answer
-  -- so it does wherever the terminal refuses nothing: the office gives the same answer and the same tables
-  pub office : answer .refusal ≡ 0 → PlanPromise call entry exit answer
-  -- and with other tables that have room, the same answer, and the same text, line by line
+  -- and only where there are
+  pub tooLarge : answer .refusal ≡ 17 → fitsTerminal call ≡ false
+  -- with every other answer, refusals too, planning keeps its whole promise: the office gives the same answer and the same tables
+  pub office : (answer .refusal ≡ 17 → ⊥) → PlanPromise call entry exit answer
+  -- where nothing is refused, the office has the same answer with all tables that have room,
+  pub answers :
+      answer .refusal ≡ 0 → (other : Tables) → roomFor (call .rack) (recordCount (call .list)) other ≡ true → planning call other ≡ answer
+  -- its plan has the same text, line by line,
   pub lines :
-      answer .refusal ≡ 0 → (office : Tables) → OfficeRoom call office
-      → (planning call office ≡ answer)
-      × (linesOf (planOf (writingOf call (tablesAfter call office) answer)) ≡ linesOf (planOf (writingOf call exit answer)))
-  -- which writing gives alike, byte by byte, whatever space is lent to it
-  pub text :
-      answer .refusal ≡ 0 → (office : Tables) → OfficeRoom call office → (space : List ℕ)
-      → (writing (writingOf call (tablesAfter call office) answer) space ≡ writing (writingOf call exit answer) space)
-      × (spaceAfter (writingOf call (tablesAfter call office) answer) space ≡ spaceAfter (writingOf call exit answer) space)
+      answer .refusal ≡ 0 → (other : Tables) → roomFor (call .rack) (recordCount (call .list)) other ≡ true
+      → linesOf (planHeld (call .rack) (tablesAfter call other) (planning call other .values .left))
+      ≡ linesOf (planHeld (call .rack) exit (answer .values .left))
+  -- and writing gives that text, of the terminal's tables and of the office's
+  pub text : answer .refusal ≡ 0 → Writes (textOf (planIn call)) (writeCall (call .rack) exit (answer .values .left))
+  pub officeText :
+      answer .refusal ≡ 0 → (other : Tables) → roomFor (call .rack) (recordCount (call .list)) other ≡ true
+      → Writes (textOf (planIn call)) (writeCall (call .rack) (tablesAfter call other) (planning call other .values .left))
   -- tables with places for 8 disks and 96 records are never too short
   pub enough :
       terminalDisks * mostSlots ≤ length (entry .copies) → terminalDisks ≤ length (entry .counts) → terminalRecords ≤ length (entry .left)

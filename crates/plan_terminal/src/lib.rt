@@ -22,7 +22,7 @@ pub const TERMINAL_DISKS: usize = 8;
 pub const TERMINAL_RECORDS: usize = 96;
 
 // Whether the terminal's tables hold the rack and the list.
-fn small_enough(rack: &[u64], list: &[u8]) -> bool
+fn fits_terminal(rack: &[u64], list: &[u8]) -> bool
     ensures { λ r. ⌜ r ≡ fitsTerminal (call (disksIn (now (rack .entry))) (now (list .entry))) ⌝ }
 {
     if TERMINAL_DISKS < rack.len() {
@@ -31,7 +31,7 @@ fn small_enough(rack: &[u64], list: &[u8]) -> bool
     list.len() / 8 <= TERMINAL_RECORDS
 }
 
-// The refusal of a call that they do not hold: the rack's, else that of the list's shape, else 17.
+// The refusal of a call that the terminal's tables do not hold: the rack's, else that of the list's shape, else 17.
 fn refuse(rack: &[u64], list: &[u8]) -> Refusal
     ensures { λ r. ⌜ refusalOf {A = Unit {0}} r ≡ rackJudged (disksIn (now (rack .entry))) (shapeJudged (now (list .entry)) (refused 17 0)) ⌝ }
 {
@@ -61,7 +61,7 @@ pub fn plan_terminal(
         (tables (now (copies .exit)) (now (counts .exit)) (now (left .exit)))
         (planNumbers r) ⌝ }
 {
-    if !small_enough(rack, list) {
+    if !fits_terminal(rack, list) {
         return Answer::Refused(refuse(rack, list));
     }
     plan(rack, list, copies, counts, left)

@@ -48,7 +48,7 @@ fn each_command_has_its_help() {
         .contains("plan --records FILE"));
 }
 
-/// Asserts that a help fits a terminal and has the exit statuses.
+/// Asserts that a help fits a screen and has the exit statuses.
 fn is_help(help: &str) {
     assert!(help.lines().all(|line| line.len() <= 80), "{help}");
     for status in STATUSES {

@@ -16,10 +16,10 @@ mod refusals;
 mod showing;
 mod showing_marks;
 mod streams;
-mod terminal;
 mod transfers;
 mod transfers_pages;
 mod transfers_words;
+mod tty;
 
 /// Random numbers, racks, lists and plans, as the tests of the library have them.
 #[allow(dead_code)]

@@ -9,7 +9,7 @@ use crate::folder::Folder;
 use crate::pages::assert_page_is_of;
 use crate::plans::good;
 use crate::racks::{disk, equal, equal_rack as rack, mixed};
-use crate::terminal::printed_on_terminal;
+use crate::tty::printed_on_tty;
 
 /// The page of a plan.
 pub fn page(plan: &Plan) -> String {
@@ -86,9 +86,9 @@ fn a_plan_with_shelf_films_is_shown() {
 }
 
 #[test]
-fn bold_and_colour_are_for_terminals_alone() {
+fn bold_and_colour_are_for_a_tty_alone() {
     let folder = Folder::with("plan.txt", text_of(&plan_with_shelf()));
-    let shown = printed_on_terminal(folder.command(&["show", "plan.txt"]));
+    let shown = printed_on_tty(folder.command(&["show", "plan.txt"]));
     let has_line = |style: u32, line: &str| {
         let styled = format!("\x1b[{style}m{line}\x1b[0m\n");
         assert!(shown.contains(&styled), "{shown:?}");
@@ -122,7 +122,7 @@ fn the_environment_may_forbid_bold_and_colour() {
     for (name, value, is_plain) in cases {
         let mut command = folder.command(&["show", "plan.txt"]);
         command.env(name, value);
-        let shown = printed_on_terminal(command);
+        let shown = printed_on_tty(command);
         assert_eq!(shown == SMALL_PAGE, is_plain, "{name}={value}");
         assert_eq!(shown.contains('\x1b'), !is_plain, "{name}={value}");
     }

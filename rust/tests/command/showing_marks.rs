@@ -7,7 +7,7 @@ use crate::folder::Folder;
 use crate::pages::assert_page_is_of;
 use crate::racks::equal_rack as rack;
 use crate::showing::{page, plan_with_shelf, small_plan};
-use crate::terminal::printed_on_terminal;
+use crate::tty::printed_on_tty;
 
 /// The small plan with marks at film 7 on disk 2 and at film 12.
 fn marked_plan() -> Plan {
@@ -114,9 +114,9 @@ fn the_widest_marked_copies_take_lines_that_line_up() {
 }
 
 #[test]
-fn marks_on_a_terminal_are_as_elsewhere() {
+fn marks_on_a_tty_are_as_elsewhere() {
     let folder = Folder::with("plan.txt", text_of(&marked_plan()));
-    let shown = printed_on_terminal(folder.command(&["show", "plan.txt"]));
+    let shown = printed_on_tty(folder.command(&["show", "plan.txt"]));
     let line = "\x1b[1m2 of 3 copies need not be copied (marked *)\x1b[0m\n";
     assert!(shown.ends_with(line), "{shown:?}");
     let styles = ["\x1b[0m", "\x1b[1m", "\x1b[33m"];

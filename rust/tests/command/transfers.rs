@@ -4,7 +4,7 @@ use jugfjord::transfers::{Transfer, ENDS, MOST_TRANSFERS};
 use jugfjord::wrap;
 
 use crate::folder::{Folder, Ran};
-use crate::terminal::printed_on_terminal;
+use crate::tty::printed_on_tty;
 
 /// What the command makes of these two texts.
 fn run(old: &str, new: &str) -> Ran {
@@ -65,9 +65,9 @@ fn one_of_both_files_may_be_standard_input() {
 }
 
 #[test]
-fn titles_and_sums_are_bold_on_a_terminal() {
+fn titles_and_sums_are_bold_on_a_tty() {
     let folder = folder(OLD, NEW);
-    let shown = printed_on_terminal(folder.command(&["transfers", "old.txt", "new.txt"]));
+    let shown = printed_on_tty(folder.command(&["transfers", "old.txt", "new.txt"]));
     let bold = [
         "7 copies to load in 5 rounds",
         "2 from the loader, 3 from disk 1, 1 from disk 2, 1 from disk 3",
@@ -79,7 +79,7 @@ fn titles_and_sums_are_bold_on_a_terminal() {
     assert_eq!(shown, expected);
     let mut command = folder.command(&["transfers", "old.txt", "new.txt"]);
     command.env("NO_COLOR", "1");
-    assert_eq!(printed_on_terminal(command), PAGE);
+    assert_eq!(printed_on_tty(command), PAGE);
 }
 
 #[test]

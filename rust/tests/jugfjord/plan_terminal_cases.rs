@@ -89,10 +89,13 @@ fn disks_9_or_records_97_are_refused_17() {
 fn refusal_17_stands_behind_3_and_before_7() {
     let other_ratio = [rack(8, 1, 1), vec![disk(1, 2)]].concat();
     expect_refused(&[], &zeros(97), NONE, 12, 0);
-    expect_refused(&rack(65, 1, 1), &zeros(97), NONE, 12, 0);
-    expect_refused(&other_ratio, &zeros(97), NONE, 13, 9);
+    expect_refused(&rack(65, 1, 1), &[0; 777], OFFICE, 12, 0);
+    expect_refused(&other_ratio, &zeros(1_025), OFFICE, 13, 9);
+    expect_refused(&other_ratio, &[0; 7], NONE, 13, 9);
     expect_refused(&rack(9, 1, 1), &[0; 7], NONE, 2, 0);
-    expect_refused(&rack(1, 1, 1), &zeros(97)[..775], NONE, 2, 0);
+    // 97 records and one byte.
+    expect_refused(&rack(1, 1, 1), &[0; 777], OFFICE, 2, 0);
+    expect_refused(&rack(9, 1, 1), &[0; 8_201], NONE, 2, 0);
     expect_refused(&rack(9, 1, 1), &zeros(1_025), NONE, 3, 0);
     expect_refused(&rack(1, 1, 1), &zeros(1_025), NONE, 3, 0);
     expect_refused(&rack(9, 1, 1), &[], NONE, 17, 0);

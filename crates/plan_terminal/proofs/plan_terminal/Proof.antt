@@ -10,12 +10,12 @@ use Rattle.plan_terminal.proofs.plan_terminal.Statement.{statement}
 use Rattle.plan_terminal.proofs.plan_terminal.Tie as tie
 
 -- The start, the call and the tables at entry, as they are seen once it is known whether the call fits.
-abbrev called : tie.After-small-enough → Call
+abbrev called : tie.After-fits-terminal → Call
 called c =
     let a = c .before .before .before .before .before .before .args in
     call (disksIn (a .rack .now)) (a .list .now)
 
-abbrev entry : tie.After-small-enough → Tables
+abbrev entry : tie.After-fits-terminal → Tables
 entry c =
     let a = c .before .before .before .before .before .before .args in
     tables (a .copies .now) (a .counts .now) (a .left .now)
@@ -24,7 +24,7 @@ returns : tie.Need-returns
 returns c =
     let at-then = c .before in
     let at-fits = at-then .before in
-    large-promise (called at-fits) (entry at-fits) (c .refuse .result) (sym (at-fits .small-enough .ensures) ∙ not-true _ (at-then .if1 .taken))
+    large-promise (called at-fits) (entry at-fits) (c .refuse .result) (sym (at-fits .fits-terminal .ensures) ∙ not-true _ (at-then .if1 .taken))
     (c .refuse .ensures)
 
 returns-2 : tie.Need-returns-2
@@ -32,7 +32,7 @@ returns-2 c =
     let at-plan = c .before .before .before .before .before .before in
     let at-else = at-plan .before .before .before .before in
     let at-fits = at-else .before in
-    fits-promise (called at-fits) (entry at-fits) (sym (at-fits .small-enough .ensures) ∙ not-false _ (at-else .if1 .left)) (at-plan .plan .ensures)
+    fits-promise (called at-fits) (entry at-fits) (sym (at-fits .fits-terminal .ensures) ∙ not-false _ (at-else .if1 .left)) (at-plan .plan .ensures)
 
 pub plan-terminal-spec : {M : Type 1} → statement M
 plan-terminal-spec =

@@ -117,7 +117,7 @@ disks this may be impossible, and the schedule does not find that out.
 ";
 
 const COLOURS: &str = "\
-On a terminal bold and colour are used, unless NO_COLOR is set and not empty or
+On a screen bold and colour are used, unless NO_COLOR is set and not empty or
 TERM is dumb.
 ";
 

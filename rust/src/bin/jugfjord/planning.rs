@@ -24,15 +24,15 @@ enum Planner<'a> {
 /// The plan text of the list, with marks where an earlier plan is given.
 pub fn plan(arguments: &Arguments) -> Result<Vec<u8>, Failure> {
     let earlier = arguments.file_of("--after");
-    let is_terminal = arguments.has("--terminal");
-    if is_terminal && earlier.is_some() {
+    let on_terminal = arguments.has("--terminal");
+    if on_terminal && earlier.is_some() {
         return Err(Failure::usage(
             "plan expects no --after with --terminal",
             "plan",
         ));
     }
     let list = List::asked(arguments)?;
-    let planner = match is_terminal {
+    let planner = match on_terminal {
         true => Planner::Terminal,
         false => Planner::Office(earlier.map(PlanFile::read).transpose()?),
     };
