@@ -224,7 +224,7 @@ static void unequal_disks(void)
 
 /* Plans so many records of film 0 on so many equal disks, as the purser's terminal does, with so many places. Every place has
  * held 5, and a refusal leaves it so. */
-static struct jugfjord_planned plan_on_terminal(size_t disks, size_t bytes, size_t places, size_t places_left)
+static struct jugfjord_planned plan_on_terminal(size_t disks, size_t bytes, size_t copy_places, size_t left_places)
 {
     static uint8_t zeros[8 * RECORDS];
     uint64_t own_copies[JUGFJORD_TERMINAL_COPIES], own_left[JUGFJORD_TERMINAL_RECORDS];
@@ -233,8 +233,8 @@ static struct jugfjord_planned plan_on_terminal(size_t disks, size_t bytes, size
     for (size_t i = 0; i < JUGFJORD_TERMINAL_COPIES; i++) own_copies[i] = 5;
     for (size_t i = 0; i < JUGFJORD_TERMINAL_DISKS; i++) own_counts[i] = 5;
     for (size_t i = 0; i < JUGFJORD_TERMINAL_RECORDS; i++) own_left[i] = 5;
-    struct jugfjord_planned p = jugfjord_plan_terminal(rack, disks, zeros, bytes, own_copies, places, own_counts,
-                                                       JUGFJORD_TERMINAL_DISKS, own_left, places_left);
+    struct jugfjord_planned p = jugfjord_plan_terminal(rack, disks, zeros, bytes, own_copies, copy_places, own_counts,
+                                                       JUGFJORD_TERMINAL_DISKS, own_left, left_places);
     for (size_t i = 0; i < JUGFJORD_TERMINAL_COPIES; i++) changed += own_copies[i] != 5;
     for (size_t i = 0; i < JUGFJORD_TERMINAL_DISKS; i++) changed += own_counts[i] != 5;
     for (size_t i = 0; i < JUGFJORD_TERMINAL_RECORDS; i++) changed += own_left[i] != 5;

@@ -6,7 +6,7 @@ pub const MOST_STREAMS: u32 = 65_535;
 pub const MOST_RECORDS: usize = 1_024;
 /// The most disks that the purser's terminal plans for.
 pub const TERMINAL_DISKS: usize = 8;
-/// The most records that it plans.
+/// The most records that the purser's terminal plans.
 pub const TERMINAL_RECORDS: usize = 96;
 /// The last film that a plan may have.
 pub const LAST_FILM: u32 = 65_535;

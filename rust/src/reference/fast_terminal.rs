@@ -1,5 +1,5 @@
-//! Planning on the purser's terminal, fast: the rolling planner decides alone what is small enough,
-//! and says of all else what it refuses before it looks at the tables.
+//! Planning on the purser's terminal, fast: a call that is small enough goes to the rolling planner.
+//! Of any other, that planner says what it refuses before it looks at the tables.
 
 use super::rolling;
 use crate::ffi::Planned;

@@ -57,6 +57,17 @@ fn is_help(help: &str) {
 }
 
 #[test]
+fn the_help_of_plan_has_the_limits_of_the_terminal() {
+    let help = Folder::new().run(&["plan", "--help"]).printed().to_string();
+    let words = "With --terminal the list is planned as on the purser's terminal: more than 8
+disks or more than 96 records are refused, and all else has the plan that it has
+without the option.";
+    assert!(help.contains(words), "{help}");
+    let used = "  jugfjord plan ... --terminal    plan as the purser's terminal does\n";
+    assert!(help.contains(used), "{help}");
+}
+
+#[test]
 fn the_version_is_that_of_the_package() {
     let version = concat!("jugfjord ", env!("CARGO_PKG_VERSION"), "\n");
     assert_eq!(Folder::new().run(&["--version"]).printed(), version);
@@ -172,7 +183,7 @@ const WRONG: [(&[&str], &str); 31] = [
         "plan expects no further file, found 'x.txt', see jugfjord plan --help",
     ),
     (
-        &["plan", "--terminal", "list.txt", "--after", "x.txt"],
+        &["plan", "--terminal", "none.txt", "--after", "x.txt"],
         "plan expects no --after with --terminal, see jugfjord plan --help",
     ),
     (

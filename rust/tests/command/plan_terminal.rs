@@ -3,43 +3,67 @@
 use jugfjord::rack::records;
 
 use crate::dice::Dice;
-use crate::folder::{plan_input, rack, terminal_text, Folder};
+use crate::folder::{plan_input, rack, terminal_text, Folder, Ran};
 use crate::lists::{good_of, FAULTS, KINDS};
 use crate::racks::{equal, mixed, three_numbers};
 use crate::random_lists::{compare, disk_lines, list_file, rack_lines};
 use crate::tally::Tally;
 
-/// A list file of so many disks and films, each film on a line of its own.
-fn list(disks: &str, films: usize) -> String {
+/// A list file with these lines of the rack and so many films, each on a line of its own.
+fn list(rack: &str, films: usize) -> String {
     let lines = (1..=films).map(|film| format!("{film} 1\n"));
-    disks.to_string() + &lines.collect::<String>()
+    rack.to_string() + &lines.collect::<String>()
+}
+
+/// Command lines behind `plan`, with a list of 8 disks as a file, as records or on standard input.
+const FORMS: [&[&str]; 8] = [
+    &["--terminal", "list.txt"],
+    &["list.txt", "--terminal"],
+    &["--terminal", "--", "list.txt"],
+    &["--terminal", "--terminal", "list.txt"],
+    &["--terminal", "--records", "list.bin"],
+    &["--records", "list.bin", "--terminal"],
+    &["--records", "--terminal", "list.bin"],
+    &["--terminal", "-"],
+];
+
+/// What each form comes to on 8 disks and so many films.
+fn ran_on(films: usize) -> Vec<Ran> {
+    let text = list("rack 8 1 1\n", films);
+    let pairs: Vec<(u32, u32)> = (1..=films as u32).map(|film| (film, 1)).collect();
+    let folder = Folder::with("list.txt", &text);
+    folder.write("list.bin", plan_input(rack(8, 1, 1), &pairs));
+    let run = |form: &&[&str]| folder.run_on(&[&["plan"], *form].concat(), text.as_bytes());
+    FORMS.iter().map(run).collect()
 }
 
 #[test]
-fn the_plan_is_that_of_the_office_in_every_form() {
-    let folder = Folder::with("list.txt", list("rack 8 1 1\n", 96));
+fn the_plan_is_the_same_in_every_form() {
     let films: Vec<(u32, u32)> = (1..=96).map(|film| (film, 1)).collect();
-    folder.write("list.bin", plan_input(rack(8, 1, 1), &films));
-    let office = folder.run(&["plan", "list.txt"]);
-    let forms: [&[&str]; 6] = [
-        &["--terminal", "list.txt"],
-        &["list.txt", "--terminal"],
-        &["--terminal", "--", "list.txt"],
-        &["--terminal", "--records", "list.bin"],
-        &["--records", "list.bin", "--terminal"],
-        &["--terminal", "--terminal", "list.txt"],
-    ];
-    for form in forms {
-        let ran = folder.run(&[&["plan"], form].concat());
-        assert_eq!(ran.printed(), office.printed(), "{form:?}");
+    let text = terminal_text(&rack(8, 1, 1).entries(), &records(&films)).expect("it fits");
+    let folder = Folder::with("list.txt", list("rack 8 1 1\n", 96));
+    assert_eq!(folder.run(&["plan", "list.txt"]).printed(), text);
+    for (ran, form) in ran_on(96).iter().zip(FORMS) {
+        assert_eq!(ran.printed(), text, "{form:?}");
     }
-    let text = terminal_text(&rack(8, 1, 1).entries(), &records(&films));
-    assert_eq!(Ok(office.printed().into()), text);
+}
+
+#[test]
+fn the_limit_holds_in_every_form() {
+    let words = "the list has 97 records, more than the terminal's 96 (refused 17)";
+    for (ran, form) in ran_on(97).iter().zip(FORMS) {
+        let source = match form.contains(&"--records") {
+            true => "list.bin",
+            false if form.contains(&"-") => "standard input:98",
+            false => "list.txt:98",
+        };
+        ran.failed(1, &format!("{source}: {words}"));
+    }
 }
 
 #[test]
 fn what_is_too_large_is_said_with_its_line() {
-    let disks = "disk 2 4\n# x\n".repeat(9);
+    let disks = "disk 2 4\n# x\n".repeat(12);
     let refused = [
         (
             list("\nrack 9 1 1\n", 1),
@@ -49,10 +73,10 @@ fn what_is_too_large_is_said_with_its_line() {
             list("rack 64 1 1\n", 97),
             "1: the rack has 64 disks, more than the terminal's 8",
         ),
-        // Disk 9 is in line 17, with a comment behind each disk.
+        // Disk 9 of 12 is in line 17, with a comment behind each disk.
         (
             list(&disks, 0),
-            "17: the rack has 9 disks, more than the terminal's 8",
+            "17: the rack has 12 disks, more than the terminal's 8",
         ),
         // Record 97 is in line 98.
         (
@@ -78,14 +102,14 @@ fn what_is_too_large_is_said_with_its_line() {
 }
 
 #[test]
-fn what_the_office_refuses_before_it_comes_first() {
+fn what_the_office_refuses_before_17_comes_first() {
     let refused = [
         (
             list("rack 65 1 1\n", 97),
             "1: disks 65 is outside 1 to 64 (refused 1)",
         ),
         (
-            list("disk 1 1\n", 0).repeat(8) + "disk 1 2\n",
+            "disk 1 1\n".repeat(8) + "disk 1 2\n",
             "9: 2 streams to 1 slots is not the ratio of disk 1, 1 to 1 (refused 13, disk 9)",
         ),
         (
@@ -99,7 +123,7 @@ fn what_the_office_refuses_before_it_comes_first() {
         let ran = folder.run(&["plan", "--terminal", "list.txt"]);
         ran.failed(1, &format!("list.txt:{words}"));
     }
-    // The records come behind it.
+    // The records are looked at behind 17.
     folder.write("list.txt", list("rack 9 1 1\n0 1\n", 0));
     let ran = folder.run(&["plan", "--terminal", "list.txt"]);
     assert!(ran.err.ends_with(" (refused 17)\n"), "{}", ran.err);
@@ -122,7 +146,9 @@ fn random_lists_have_the_plan_of_the_reference() {
         let count = dice.pick(&[0, 5, 30, 95, 96, 96, 97]);
         let (mut case, need) = good_of(&mut dice, rack, kind, count);
         if dice.one_in(4) {
-            FAULTS[dice.below(4) + 3].1(&mut dice, &mut case, need);
+            // Those of the records, which leave a list of whole records.
+            let (_, fault) = dice.pick(&FAULTS[3..]);
+            fault(&mut dice, &mut case, need);
         }
         let lines = match three_numbers(&case.rack) {
             Some(rack) if turn % 4 < 2 => rack_lines(rack),

@@ -105,6 +105,9 @@ fn refusal_17_stands_behind_3_and_before_7() {
 
 #[test]
 fn tables_of_the_terminals_size_are_just_long_enough() {
+    let own = OwnTables::for_terminal();
+    let lengths = [own.copies.len(), own.counts.len(), own.left.len()];
+    assert_eq!(lengths, [256, 8, 96]);
     let largest = rack(8, 32, 65_535);
     expect_refused(&largest, &zeros(96), [256, 8, 96], 4, 1);
     expect_refused(&largest, &zeros(96), [255, 8, 96], 7, 0);

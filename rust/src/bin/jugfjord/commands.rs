@@ -17,7 +17,7 @@ pub struct Command {
     more: &'static [&'static str],
     /// The options that choose among the uses.
     pub options: &'static [&'static str],
-    /// The options that each use may have besides, and --help.
+    /// The options that any use may have, besides --help.
     pub switches: &'static [&'static str],
     /// The options with a file behind them, and what the file is called.
     pub file_options: &'static [(&'static str, &'static str)],

@@ -32,9 +32,10 @@ pub fn plan(arguments: &Arguments) -> Result<Vec<u8>, Failure> {
         ));
     }
     let list = List::asked(arguments)?;
-    let planner = match on_terminal {
-        true => Planner::Terminal,
-        false => Planner::Office(earlier.map(PlanFile::read).transpose()?),
+    let planner = if on_terminal {
+        Planner::Terminal
+    } else {
+        Planner::Office(earlier.map(PlanFile::read).transpose()?)
     };
     plan_text(&list, &planner).map_err(|refusal| match (refusal.number, &planner) {
         (8 | 9, Planner::Office(Some(earlier))) => earlier.refused(refusal),
@@ -98,11 +99,11 @@ fn place(source: &Source, list: &List, refusal: Refusal) -> String {
         4..=6 | 16 => record_line(second_of(refusal)),
         12 => disk_line(list, out_of_range_disk(&list.rack.entries())),
         13 => disk_line(list, second_of(refusal)),
-        17 if list.rack.entries().len() > TERMINAL_DISKS => match &list.rack {
-            ListRack::Equal(_) => disk_line(list, 0),
-            ListRack::Disks(_) => disk_line(list, TERMINAL_DISKS),
+        17 => match (too_many_disks(list), &list.rack) {
+            (None, _) => record_line(TERMINAL_RECORDS),
+            (Some(_), ListRack::Equal(_)) => disk_line(list, 0),
+            (Some(_), ListRack::Disks(_)) => disk_line(list, TERMINAL_DISKS),
         },
-        17 => record_line(TERMINAL_RECORDS),
         _ => None,
     };
     at_line(source, line)
@@ -166,14 +167,23 @@ fn wrong_rack(list: &List, refusal: Refusal) -> String {
     }
 }
 
-/// Of what there is more than on the purser's terminal.
-fn too_large(list: &List) -> String {
+/// How many disks there are, if they are more than the purser's terminal takes.
+fn too_many_disks(list: &List) -> Option<usize> {
     let disks = list.rack.entries().len();
-    if disks > TERMINAL_DISKS {
-        return format!("the rack has {disks} disks, more than the terminal's {TERMINAL_DISKS}");
-    }
+    (disks > TERMINAL_DISKS).then_some(disks)
+}
+
+/// Of what there is more than the purser's terminal takes: of disks, else of records.
+fn too_large(list: &List) -> String {
     let records = list.records.len() / RECORD;
-    format!("the list has {records} records, more than the terminal's {TERMINAL_RECORDS}")
+    match too_many_disks(list) {
+        Some(disks) => {
+            format!("the rack has {disks} disks, more than the terminal's {TERMINAL_DISKS}")
+        }
+        None => {
+            format!("the list has {records} records, more than the terminal's {TERMINAL_RECORDS}")
+        }
+    }
 }
 
 /// Which numbers of the rack are out of which range.
