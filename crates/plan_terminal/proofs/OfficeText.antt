@@ -31,8 +31,8 @@ module _ (c : Call) where
 
   -- A call that is planned with some tables is planned with all that have room.
   pub room-verdict :
-      (t office : Tables) → verdict c t ≡ given tt → roomFor (c .rack) (recordCount (c .list)) office ≡ true → verdict c office ≡ given tt
-  room-verdict t office e room = skips-room office room ∙ sym (skips-room t (call-judged c t e .2)) ∙ e
+      (t other : Tables) → verdict c t ≡ given tt → roomFor (c .rack) (recordCount (c .list)) other ≡ true → verdict c other ≡ given tt
+  room-verdict t other e room = skips-room other room ∙ sym (skips-room t (call-judged c t e .2)) ∙ e
 
   -- The writing of the tables that planning leaves.
   abbrev pub afterPlanning : Tables → WriteCall
@@ -70,4 +70,4 @@ module _ (c : Call) where
 
     -- So writing gives the text of the plan.
     pub planned-writes : Writes (textOf (planIn c)) (afterPlanning t)
-    planned-writes = record { answers = written-numbers; bytes = written-bytes }
+    planned-writes = record { numbers = written-numbers; bytes = written-bytes }

@@ -45,7 +45,7 @@ module _ (c : Call) (t : Tables) where
         tooLarge = λ seventeen.
             by-test (fitsTerminal c) (λ fits. absurd (subst (Other 17) (sym (fits-verdict c t fits) ∙ e) (office-other c t) seventeen)) (λ large. large);
         office = λ other. same-promise (refused n s) (not-seventeen c t n s e other);
-        answers = λ h. absurd (omega (arith, some, h));
+        officeAnswer = λ h. absurd (omega (arith, some, h));
         lines = λ h. absurd (omega (arith, some, h));
         text = λ h. absurd (omega (arith, some, h));
         officeText = λ h. absurd (omega (arith, some, h));
@@ -78,7 +78,7 @@ module _ (c : Call) (t : Tables) where
         refusesSize = λ rack whole few large. false-true (sym large ∙ fits);
         tooLarge = λ seventeen. absurd (omega (arith, seventeen));
         office = λ h. same-promise (given tt) here;
-        answers = λ h other room. answer-is other (room-verdict c t other here room);
+        officeAnswer = λ h other room. answer-is other (room-verdict c t other here room);
         lines = λ h other room.
             let there : verdict c other ≡ given tt = room-verdict c t other here room in
             ap (λ (w : WriteCall). linesOf (planOf w)) (writing-is other there) ∙ ap linesOf (plan-is c other there ∙ sym (plan-is c t here));

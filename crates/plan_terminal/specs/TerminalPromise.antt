@@ -17,7 +17,7 @@ use Rattle.plan_terminal.specs.Terminal.{terminalDisks, terminalRecords,
 
 -- Writing gives this text: in every space with room for it the answer is its length, its bytes stand in front and those after it are untouched.
 pub record Writes (text : List ℕ) (w : WriteCall) : Type 0 where
-  pub answers : (space : List ℕ) → length text ≤ length space → writing w space ≡ record { refusal = 0; second = 0; values = length text }
+  pub numbers : (space : List ℕ) → length text ≤ length space → writing w space ≡ record { refusal = 0; second = 0; values = length text }
   pub bytes : (space : List ℕ) → length text ≤ length space → spaceAfter w space ≡ written text space
 
 -- A call, the lent tables at entry and at exit, and the numbers of the answer.
@@ -36,7 +36,7 @@ pub record TerminalPromise (call : Call) (entry exit : Tables) (answer : Numbers
   -- with every other answer, refusals too, planning keeps its whole promise: the office gives the same answer and the same tables
   pub office : (answer .refusal ≡ 17 → ⊥) → PlanPromise call entry exit answer
   -- where nothing is refused, the office has the same answer with all tables that have room,
-  pub answers :
+  pub officeAnswer :
       answer .refusal ≡ 0 → (other : Tables) → roomFor (call .rack) (recordCount (call .list)) other ≡ true → planning call other ≡ answer
   -- its plan has the same text, line by line,
   pub lines :
