@@ -4,3 +4,4 @@ pub mod OfficeText
 pub mod TerminalPromise
 pub mod LongRacks
 pub mod TerminalCasesHold
+pub mod PromiseInstances

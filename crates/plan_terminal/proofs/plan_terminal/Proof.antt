@@ -9,7 +9,7 @@ use Rattle.plan_terminal.proofs.TerminalPromise.{fits-promise, large-pr
 use Rattle.plan_terminal.proofs.plan_terminal.Statement.{statement}
 use Rattle.plan_terminal.proofs.plan_terminal.Tie as tie
 
--- The start, the call and the tables at entry, as they are seen once it is known whether the call fits.
+-- The call and the tables at entry, as they are seen once it is known whether the call fits.
 abbrev called : tie.After-fits-terminal → Call
 called c =
     let a = c .before .before .before .before .before .before .args in
