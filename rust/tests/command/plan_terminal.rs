@@ -15,6 +15,12 @@ fn list(rack: &str, films: usize) -> String {
     rack.to_string() + &lines.collect::<String>()
 }
 
+/// What `plan --terminal` comes to on a list file with these lines.
+fn on_terminal(folder: &Folder, lines: impl AsRef<[u8]>) -> Ran {
+    folder.write("list.txt", lines);
+    folder.run(&["plan", "--terminal", "list.txt"])
+}
+
 /// Command lines behind `plan`, with a list of 8 disks as a file, as records or on standard input.
 const FORMS: [&[&str]; 8] = [
     &["--terminal", "list.txt"],
@@ -90,9 +96,7 @@ fn what_is_too_large_is_said_with_its_line() {
     ];
     let folder = Folder::new();
     for (list, words) in refused {
-        folder.write("list.txt", list);
-        let ran = folder.run(&["plan", "--terminal", "list.txt"]);
-        ran.failed(1, &format!("list.txt:{words} (refused 17)"));
+        on_terminal(&folder, list).failed(1, &format!("list.txt:{words} (refused 17)"));
         folder.run(&["plan", "list.txt"]).printed();
     }
     folder.write("list.bin", plan_input(rack(9, 1, 1), &[]));
@@ -119,17 +123,13 @@ fn what_the_office_refuses_before_17_comes_first() {
     ];
     let folder = Folder::new();
     for (list, words) in refused {
-        folder.write("list.txt", list);
-        let ran = folder.run(&["plan", "--terminal", "list.txt"]);
-        ran.failed(1, &format!("list.txt:{words}"));
+        on_terminal(&folder, list).failed(1, &format!("list.txt:{words}"));
     }
     // The records are looked at behind 17.
-    folder.write("list.txt", list("rack 9 1 1\n0 1\n", 0));
-    let ran = folder.run(&["plan", "--terminal", "list.txt"]);
+    let ran = on_terminal(&folder, list("rack 9 1 1\n0 1\n", 0));
     assert!(ran.err.ends_with(" (refused 17)\n"), "{}", ran.err);
-    folder.write("list.txt", list("rack 8 1 1\n0 1\n", 0));
     let words = "film number 0 is outside 1 to 65535 (refused 4, record 1)";
-    let ran = folder.run(&["plan", "--terminal", "list.txt"]);
+    let ran = on_terminal(&folder, list("rack 8 1 1\n0 1\n", 0));
     ran.failed(1, &format!("list.txt:2: {words}"));
 }
 
@@ -154,9 +154,8 @@ fn random_lists_have_the_plan_of_the_reference() {
             Some(rack) if turn % 4 < 2 => rack_lines(rack),
             _ => disk_lines(&case.rack),
         };
-        folder.write("list.txt", list_file(&mut dice, lines, &case.list));
         let expected = terminal_text(&case.rack, &case.list);
-        let ran = folder.run(&["plan", "--terminal", "list.txt"]);
+        let ran = on_terminal(&folder, list_file(&mut dice, lines, &case.list));
         compare(&ran, &expected);
         tally.answer(expected.err().map_or(0, |refusal| refusal.number));
     }

@@ -10,7 +10,7 @@ use crate::dice::Dice;
 use crate::guarded::GuardedTables;
 use crate::lists::{add_faults, good_of, Case, FAULTS, KINDS};
 use crate::racks::{equal, mixed, tally_rack, Racks, WRONG_RACKS};
-use crate::subjects::{PLANNERS, TERMINALS, WRITERS};
+use crate::subjects::{planned_alike, PLANNERS, TERMINALS, WRITERS};
 use crate::tally::Tally;
 
 const CALLS: usize = 120_000;
@@ -34,7 +34,7 @@ fn terminals_agree_on_unequal_disks() {
 fn run(mut dice: Dice, racks: Racks, tally: &mut Tally) {
     for _ in 0..CALLS {
         let case = random_case(&mut dice, racks, tally);
-        let (planned, after) = compare(&case);
+        let (planned, after) = planned_alike(TERMINALS, &case);
         tally.answer(planned.number);
         compare_with_office(&case, &planned, &after, tally);
         if planned.number == 0 {
@@ -98,24 +98,6 @@ fn random_case(dice: &mut Dice, racks: Racks, tally: &mut Tally) -> Case {
     let (mut case, need) = good_of(dice, rack, kind, count);
     add_faults(dice, &mut case, need, tally);
     case
-}
-
-/// Runs all planners of the terminal on the case and compares their answers and every place.
-fn compare(case: &Case) -> (Planned, GuardedTables) {
-    let mut expected = case.tables.clone();
-    let answer = TERMINALS[0].1(&case.rack, &case.list, expected.lend());
-    for (name, planner) in &TERMINALS[1..] {
-        let mut tables = case.tables.clone();
-        let planned = planner(&case.rack, &case.list, tables.lend());
-        assert_eq!(planned, answer, "{name} on {:?} {:?}", case.rack, case.list);
-        assert!(
-            tables == expected,
-            "{name} on {:?} {:?}",
-            case.rack,
-            case.list
-        );
-    }
-    (answer, expected)
 }
 
 /// Of what a call has more than the terminal takes.

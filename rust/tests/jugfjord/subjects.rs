@@ -11,6 +11,9 @@ use jugfjord::transfers::{CountRow, Transfer};
 #[cfg(feature = "library")]
 use jugfjord::wrap;
 
+use crate::guarded::GuardedTables;
+use crate::lists::Case;
+
 pub type Planner = fn(&[Disk], &[u8], LentTables) -> Planned;
 pub type PlannerAfter = fn(&[Disk], &[u8], &[u8], LentTables) -> Planned;
 pub type Writer = fn(&[Disk], TablesView, u32, &mut [u8]) -> Written;
@@ -70,3 +73,21 @@ pub const FINDERS: &[(&str, Finder)] = &[
     #[cfg(feature = "library")]
     ("library", wrap::transfers),
 ];
+
+/// Runs the planners on the case, asserts that they have one answer and the same in every place, and
+/// gives both.
+pub fn planned_alike(planners: &[(&str, Planner)], case: &Case) -> (Planned, GuardedTables) {
+    let Case { rack, list, .. } = case;
+    let mut expected = case.tables.clone();
+    let answer = planners[0].1(rack, list, expected.lend());
+    for (name, planner) in &planners[1..] {
+        let mut tables = case.tables.clone();
+        let planned = planner(rack, list, tables.lend());
+        assert_eq!(planned, answer, "{name} on {rack:?} {list:?}");
+        assert!(
+            tables == expected,
+            "{name} on {rack:?} {list:?}: {tables:?}, not {expected:?}"
+        );
+    }
+    (answer, expected)
+}
