@@ -4,19 +4,10 @@ use Prim.Native.Nat.{ℕ, zero, suc, ◌<◌, min}
 use mathlib.Core.List.{List, [], ◌∷◌}
 use lib.ListN.{length, take, get_or, length-map, length-take, get_or-map}
 use lib.Seq.{get_or-take}
-use mir.Val.{Val}
-use denote.Laws.{Is}
-use denote.Struct.Laws as laws
 use Rattle.placement.specs.Rack.{Disk, disk}
 use Rattle.placement.specs.Packed.{disk_in, disks_in}
 use Rattle.disk_entries.specs.Entries.{held_disks}
 use Rattle.disk_entries.specs.declared.PackedDisks.{PackedDisks}
-use Rattle.disk_entries.specs.contracts.PackedDisks as packed
-use Rattle.disk_entries.proofs.PackedDisks.TheLaws as packed_laws
-
--- A packed rack has 65 places.
-pub places_65 : (p : PackedDisks) (vs : List Val) → Is packed.the_row p vs → length p.disks ≡ 65
-places_65 p vs is = sym (length-map p.disks (λ x. x)) ∙ (laws.owed packed.the_type packed_laws.the_laws p vs is).1.0.1.0.1
 
 -- It holds as many disks as it says, at most 65.
 pub length_held : (p : PackedDisks) → length p.disks ≡ 65 → length (held_disks p) ≡ min p.count 65

@@ -1,5 +1,4 @@
 pub mod Lists
 pub mod Held
-pub mod Numbers
-pub mod Answered
 pub mod EntriesHold
+pub mod Loops

@@ -1,5 +1,7 @@
 // The rack as a caller lends it: a slice of disk entries, read and written by two functions. Each is proved by a walk of
 // its MIR, by hand; the functions that they call are covered.
+#![tactic(auto)]
+
 ghost use Rattle.std.specs.Prelude.{◌≡◌, ◌++◌, min, length, take, drop};
 ghost use Rattle.placement.specs.Packed.{disk_in, disks_in};
 ghost use Rattle.disk_entries.specs.Entries.{disk_of, disks_of_entries, held_disks};
@@ -11,14 +13,14 @@ pub const MOST_PACKED: usize = 65;
 
 // A disk as a caller lends it: `struct jugfjord_disk` of the header.
 #[repr(C)]
-#[derive(Drop)]
+#[derive(Clone, Copy)]
 pub struct DiskEntry {
     pub slots: Slots,
     pub streams: Streams,
 }
 
 // Disks as numbers: the first `count` of `disks`. What they hold is all that a packed rack says; no function looks further.
-#[derive(Drop)]
+#[derive(Clone, Copy)]
 pub struct PackedDisks {
     pub count: usize,
     pub disks: [u64; 65],

@@ -1,4 +1,6 @@
 // The vocabulary of film racks: slots, streams, the rack, the limits of document 01, entries of tables, and the room that a plan needs.
+#![tactic(auto)]
+
 mod entry; // entry.rt: an entry of a table as one number
 mod mixed; // mixed.rt: a rack of large and small disks, its refusals and its room
 mod packed; // packed.rt: a disk as one number

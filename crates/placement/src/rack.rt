@@ -6,16 +6,16 @@ use crate::{MOST_DISKS, MOST_SLOTS, MOST_STREAMS};
 
 // How many films a disk can store: 01's k.
 #[repr(C)]
-#[derive(Drop)]
+#[derive(Clone, Copy)]
 pub struct Slots(pub u32);
 
 // How many viewers a disk can serve at a time: 01's load L.
 #[repr(C)]
-#[derive(Drop)]
+#[derive(Clone, Copy)]
 pub struct Streams(pub u32);
 
 // A rack of equal disks: 01's N, k and L.
-#[derive(Drop)]
+#[derive(Clone, Copy)]
 pub struct Rack {
     pub disks: u32,
     pub slots: Slots,

@@ -1,1 +1,2 @@
 // The plan text as definitions and laws; it has no code of its own.
+#![tactic(auto)]

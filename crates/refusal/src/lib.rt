@@ -1,9 +1,11 @@
 // Why an operation declines: the refusals of documents 01 and 02 as one enum, with the number and the second number of each.
+#![tactic(auto)]
+
 ghost use Rattle.std.specs.Prelude.{◌≡◌};
 ghost use Rattle.refusal.specs.Numbers.{number_of, second_of};
 
 // The refusals of documents 01 and 02. specs/Numbers.antt gives number and values for each case.
-#[derive(Drop)]
+#[derive(Clone, Copy)]
 pub enum Refusal {
     RackOutOfRange,
     ListLength,
@@ -25,7 +27,7 @@ pub enum Refusal {
 }
 
 // What a judgement comes to: no refusal applies, or the first that does.
-#[derive(Drop)]
+#[derive(Clone, Copy)]
 pub enum Judgement {
     Passed,
     Refused(Refusal),

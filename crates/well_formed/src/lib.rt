@@ -1,4 +1,6 @@
 // Tests of what lent tables hold: copies of a disk, left films, unused places, equal disks, and sums. Every function answers for every argument.
+#![tactic(auto)]
+
 mod copies;
 mod entry;
 mod left;
