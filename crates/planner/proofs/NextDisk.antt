@@ -1,10 +1,10 @@
 -- The disk that is filled next: its number from the order, its first place, its room and its ranges.
-use mathlib.Core.Path.{◌≡◌, refl, sym, ap, ap₂, ◌∙◌, subst}
+use mathlib.Core.Path.{◌≡◌, sym, ap, ap₂, ◌∙◌, subst}
 use mathlib.Core.Bool.{true}
 use mathlib.Core.List.{List}
 use Prim.Native.Nat.{ℕ, ◌+◌, ◌≤◌, ◌<◌}
 use native.Mathlib.Omega.{arith}
-use lib.ListN.{length, take, get_or}
+use lib.ListN.{length, get_or}
 use lib.Seq.{get_or-take}
 use Rattle.placement.specs.Rack.{Disk, disk, all_slots, rack_accepted}
 use Rattle.placement.specs.Packed.{disk_in, disks_in}

@@ -1,7 +1,7 @@
 -- What a disk stores is its window with less for the last film.
 use mathlib.Core.Path.{◌≡◌, refl, sym, ap, ◌∙◌}
 use mathlib.Core.List.{List, [], ◌∷◌, ◌++◌}
-use Prim.Native.Nat.{ℕ, ◌+◌, ◌-◌, ◌≤◌, ◌<◌}
+use Prim.Native.Nat.{ℕ, ◌-◌, ◌≤◌, ◌<◌}
 use native.Mathlib.Omega.{arith}
 use Rattle.placement.specs.Items.{Item, item, total, amount_of}
 use Rattle.placement.specs.Disk.{all_but_last, last_film, stored}

@@ -2,7 +2,7 @@
 use refusal::Refusal;
 
 // A plan's S, U and number of left films, or a refusal. specs/Answers.antt gives the numbers for each case.
-#[derive(Drop)]
+#[derive(Clone, Copy)]
 pub enum Answer {
     Planned {
         served: u64,

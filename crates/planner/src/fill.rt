@@ -20,7 +20,7 @@ use crate::{key, worklist};
 use placement::{Slots, Streams, disk_slots, disk_streams};
 
 // What filling one disk comes to: how many films are in the list then, the disk's copies and their viewers.
-#[derive(Drop)]
+#[derive(Clone, Copy)]
 pub(crate) struct Step {
     pub(crate) left: usize,
     pub(crate) copies: u32,
@@ -86,7 +86,7 @@ pub(crate) fn fill_one(
 }
 
 // What filling all disks comes to: how many films are left in the list, and the viewers of all copies.
-#[derive(Drop)]
+#[derive(Clone, Copy)]
 pub(crate) struct Filled {
     pub(crate) left: usize,
     pub(crate) served: u64,

@@ -1,4 +1,6 @@
 // Planning: the bytes of a demand list to the lent tables, in steps of one module each.
+#![tactic(auto)]
+
 mod answer; // answer.rt: what planning answers
 mod build; // build.rt: the working list from the records
 mod fill; // fill.rt: one disk filled, and all disks

@@ -11,14 +11,14 @@ ghost use Rattle.planner.specs.Search.{Opened};
 use crate::key;
 
 // A number of opening films and the sum of their amounts.
-#[derive(Drop)]
+#[derive(Clone, Copy)]
 struct Prefix {
     count: usize,
     sum: u32,
 }
 
 // A window of the list and the sum of its amounts.
-#[derive(Drop)]
+#[derive(Clone, Copy)]
 pub(crate) struct Found {
     pub(crate) start: usize,
     pub(crate) size: usize,

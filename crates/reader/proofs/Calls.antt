@@ -14,7 +14,7 @@ use Rattle.refusal.specs.declared.Refusal.TheVariants.{TablesTooShort}
 use Rattle.refusal.proofs.Verdicts.{unless_refuses}
 use Rattle.placement.specs.Rack.{Disk, all_slots, most_disks, most_slots}
 use Rattle.placement.specs.Packed.{disks_in}
-use Rattle.placement.specs.Tables.{Tables, tables, room_in, room_for, own_tables}
+use Rattle.placement.specs.Tables.{Tables, room_in, room_for, own_tables}
 use Rattle.placement.specs.Plan.{Plan, well_formed}
 use Rattle.placement.proofs.Conjunctions.{both_true}
 use Rattle.placement.proofs.Racks.{accepted_all_slots}

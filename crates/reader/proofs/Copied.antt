@@ -12,7 +12,6 @@ use Rattle.placement.proofs.Formed.{plan_lists}
 use Rattle.placement.proofs.Written.{written_front}
 use Rattle.placement.proofs.ReadBack.{plan_fits, fits_length}
 use Rattle.plan_text.specs.ReadCall.{holding_plan}
-use Rattle.reader.specs.declared.answer.ReadAnswer.TheVariants as answers
 use Rattle.reader.specs.Stored.{front_copied, fronts_copied}
 
 -- The first places of a table that was overwritten are what overwrote it.

@@ -2,7 +2,7 @@
 use refusal::Refusal;
 
 // A plan that was read: the number of disks, what is served and not served, and the number of left films.
-#[derive(Drop)]
+#[derive(Clone, Copy)]
 pub struct PlanRead {
     pub disks: u32,
     pub served: u64,
@@ -11,7 +11,7 @@ pub struct PlanRead {
 }
 
 // A plan, or a refusal: 8, 9 with the line, or 7.
-#[derive(Drop)]
+#[derive(Clone, Copy)]
 pub enum ReadAnswer {
     Plan(PlanRead),
     Refused(Refusal),

@@ -4,7 +4,7 @@ ghost use Rattle.plan_text.specs.Parse.{is_digit};
 ghost use Rattle.reader.specs.Class.{class_of, digital, foreign};
 
 // What a byte of a text may be.
-#[derive(Drop)]
+#[derive(Clone, Copy)]
 pub enum Class {
     Digit,
     SmallLetter,

@@ -7,7 +7,7 @@ ghost use Rattle.reader.specs.Cursor.{place};
 use crate::class::is_foreign;
 
 // A position in the text, and whether all bytes before it fitted.
-#[derive(Drop)]
+#[derive(Clone, Copy)]
 pub struct Cursor {
     pub at: usize,
     pub fits: bool,

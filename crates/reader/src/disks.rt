@@ -7,7 +7,7 @@ use crate::line::disk_line;
 use placement::disk_slots;
 
 // The number of disk lines that fit, what they serve, and the cursor behind them.
-#[derive(Drop)]
+#[derive(Clone, Copy)]
 pub struct DiskLines {
     pub lines: u32,
     pub served: u64,

@@ -12,7 +12,7 @@ use placement::disk_of;
 use refusal::Judgement;
 
 // How many disks the first line has, and the cursor behind it.
-#[derive(Drop)]
+#[derive(Clone, Copy)]
 pub struct FirstLine {
     pub disks: u32,
     pub after: Cursor,

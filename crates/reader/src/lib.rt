@@ -1,4 +1,6 @@
 // The reader of plan texts: a text is judged line by line, and its plan is stored in a lent list of packed disks and lent tables.
+#![tactic(auto)]
+
 mod answer; // answer.rt: what reading answers
 mod call; // call.rt: a call, with tables to work in
 mod class; // class.rt: the classes of bytes

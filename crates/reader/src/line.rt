@@ -15,14 +15,14 @@ use crate::pairs::read_pairs;
 use placement::{Rack, Slots, Streams, disk_slots, disk_streams};
 
 // A rack that was read, and the cursor behind it.
-#[derive(Drop)]
+#[derive(Clone, Copy)]
 pub struct RackLine {
     pub rack: Rack,
     pub after: Cursor,
 }
 
 // How many pairs a line has, what they sum to, and the cursor behind the line.
-#[derive(Drop)]
+#[derive(Clone, Copy)]
 pub struct PairsLine {
     pub count: usize,
     pub sum: u64,

@@ -12,7 +12,7 @@ use crate::cursor::{Cursor, eat};
 const MOST: u64 = 4_294_967_295;
 
 // A number that was read, and the cursor behind it.
-#[derive(Drop)]
+#[derive(Clone, Copy)]
 pub struct Number {
     pub value: u32,
     pub after: Cursor,

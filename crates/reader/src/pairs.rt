@@ -11,7 +11,7 @@ use crate::number::read_number;
 use placement::{MARK, MOST_PLAN_FILM, entry_of};
 
 // The low and the high half of an entry, a film and its number, and the cursor behind them.
-#[derive(Drop)]
+#[derive(Clone, Copy)]
 pub struct Pair {
     pub film: u32,
     pub amount: u32,
@@ -19,7 +19,7 @@ pub struct Pair {
 }
 
 // How many pairs were read, and the cursor behind the line's closing bracket.
-#[derive(Drop)]
+#[derive(Clone, Copy)]
 pub struct Pairs {
     pub count: usize,
     pub after: Cursor,

@@ -5,7 +5,7 @@ use crate::cursor::Cursor;
 use crate::line::{left_line, served_line};
 
 // How many of the lines fit; whether both do and end the text; the number of left films and the sum of their amounts.
-#[derive(Drop)]
+#[derive(Clone, Copy)]
 pub struct TailLines {
     pub lines: u32,
     pub fits: bool,

@@ -1,5 +1,5 @@
 -- The line of a refusal as its runs, its length, and what storing it comes to.
-use Rattle.std.proofs.Common.{◌≡◌, ℕ, zero, suc, ◌+◌, ◌^◌, ◌<◌, ◌≤◌, List, [], ◌∷◌, ◌++◌, length, sym, refl, ap, ◌∙◌, append_assoc, arith, length-append, le-leb}
+use Rattle.std.proofs.Common.{◌≡◌, ℕ, zero, suc, ◌^◌, ◌<◌, ◌≤◌, List, [], ◌∷◌, ◌++◌, length, sym, refl, ap, ◌∙◌, append_assoc, arith, length-append, le-leb}
 use borrow.Author.Tests.{lt-leb}
 use Rattle.placement.proofs.Conjunctions.{cond_true, cond_false}
 use Rattle.plan_text.specs.Ascii.{ascii}

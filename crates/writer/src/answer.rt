@@ -2,7 +2,7 @@
 use refusal::Refusal;
 
 // The length of the text, or why writing declines.
-#[derive(Drop)]
+#[derive(Clone, Copy)]
 pub enum Written {
     Length(u64),
     Refused(Refusal),

@@ -1,4 +1,6 @@
 // The writer of plan texts: from the lent tables to bytes in the lent space.
+#![tactic(auto)]
+
 mod answer; // answer.rt: what writing answers
 mod copies; // copies.rt: the copies of a disk's line
 mod judge; // judge.rt: whether the tables hold a well-formed plan
