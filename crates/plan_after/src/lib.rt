@@ -1,4 +1,6 @@
 // Planning after an earlier plan: the plan of a demand list, and a mark at each copy that the same disk held before.
+#![tactic(auto)]
+
 mod mark; // mark.rt: marks in the copy table
 
 ghost use Rattle.std.specs.Prelude.{◌≡◌, length};

@@ -1,7 +1,6 @@
 -- What the program prints for the inputs of the table, proved by computation on the definitions.
 use mathlib.Core.Path.{◌≡◌, refl}
-use mathlib.Core.List.{List, map}
-use Prim.Native.Nat.{ℕ}
+use mathlib.Core.List.{map}
 use Rattle.plan_text.specs.Decimal.{decimal}
 use Rattle.plan_text.specs.Text.{text_of}
 use Rattle.plan_text.specs.RefusalLine.{refusal_text}

@@ -1,4 +1,6 @@
 // What the program `plan` prints: one function from the bytes of its input to the bytes of its output.
+#![tactic(auto)]
+
 mod input;
 mod printing;
 

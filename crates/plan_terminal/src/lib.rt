@@ -1,4 +1,6 @@
 // Planning on the purser's terminal: the office's planner, for racks and lists that the terminal's tables hold.
+#![tactic(auto)]
+
 ghost use Rattle.std.specs.Prelude.{◌≡◌};
 ghost use Rattle.refusal.specs.Verdict.{refused};
 ghost use Rattle.refusal.specs.Numbers.{refusal_of};

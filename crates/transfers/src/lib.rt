@@ -1,4 +1,6 @@
 // Transfers from an old plan to a new one, in rounds in which every disk and the loader take part in at most one.
+#![tactic(auto)]
+
 mod answer; // answer.rt: what transfers answer
 mod count; // count.rt: the table of counts
 mod lacking; // lacking.rt: the new copies that the old plan lacks
@@ -23,6 +25,9 @@ use count::{count_transfers, put_rows};
 use refusal::Refusal;
 use schedule::transfers_between;
 use texts::read_texts;
+
+// The rows of a table of counts: one for the loader and each disk.
+const ROWS: usize = 9;
 
 // Works out the transfers of two texts, with space for the keys of their copies.
 fn work_out_with(
@@ -92,7 +97,7 @@ fn transfers_counted_with(
     if list.len() < n {
         return TransfersAnswer::Refused(Refusal::TablesTooShort);
     }
-    if counts.len() < 9 {
+    if counts.len() < ROWS {
         return TransfersAnswer::Refused(Refusal::TablesTooShort);
     }
     let listed = &entries[..n];
