@@ -1,4 +1,3 @@
-pub mod Refusals
 pub mod LongRacks
 pub mod ReadInto
 pub mod NumbersHold

@@ -3,7 +3,7 @@ use mathlib.Core.Path.{◌≡◌, refl, sym, ap, ◌∙◌}
 use mathlib.Core.List.{List}
 use Prim.Native.Nat.{ℕ}
 use lib.ListN.{take}
-use Rattle.refusal.specs.Verdict.{Verdict, Numbers}
+use Rattle.refusal.specs.Verdict.{Numbers}
 use Rattle.placement.specs.Rack.{Disk}
 use Rattle.placement.specs.Tables.{Tables}
 use Rattle.placement.proofs.LongRacks.{long_refused, by_cut}

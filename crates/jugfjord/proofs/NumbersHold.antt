@@ -1,9 +1,8 @@
 -- The numbers of each struct, on one with another number in every field.
 use mathlib.Core.Path.{◌≡◌, refl}
-use Rattle.refusal.specs.Verdict.{Numbers}
-use Rattle.placement.specs.Planning.{PlanSums, sums}
-use Rattle.plan_text.specs.ReadCall.{Told, told}
-use Rattle.transfer_schedule.specs.Transfers.{ScheduleSize, schedule_size}
+use Rattle.placement.specs.Planning.{sums}
+use Rattle.plan_text.specs.ReadCall.{told}
+use Rattle.transfer_schedule.specs.Transfers.{schedule_size}
 use Rattle.jugfjord.specs.Numbers.{planned_fields, written_fields, read_fields, transferred_fields}
 
 pub planned_holds :

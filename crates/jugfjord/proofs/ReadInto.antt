@@ -16,7 +16,7 @@ use Rattle.placement.specs.Tables.{Tables, room_for}
 use Rattle.placement.specs.Plan.{Plan}
 use Rattle.placement.proofs.Racks.{accepted_disks}
 use Rattle.placement.proofs.Formed.{plan_rack}
-use Rattle.plan_text.specs.ReadCall.{Told, answer_to, text_verdict, with_tables, rack_given, tables_given, holding_rack, holding_plan, reading, rack_after_reading, tables_after_reading}
+use Rattle.plan_text.specs.ReadCall.{Told, answer_to, text_verdict, with_tables, rack_given, tables_given, holding_rack, reading, rack_after_reading, tables_after_reading}
 use Rattle.plan_text.proofs.Verdicts.{verdict_well_formed}
 use Rattle.reader.specs.Promise.{ReadPromise}
 use Rattle.reader.proofs.Promises.{read_given, read_short, read_declined}

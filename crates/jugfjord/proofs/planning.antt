@@ -1,4 +1,2 @@
 -- What the proofs of the C functions that plan share.
 mod HeldDisks
-mod PlanCode
-mod PlanWalk

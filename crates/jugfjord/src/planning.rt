@@ -16,7 +16,7 @@ use refusal::Refusal;
 
 // `struct jugfjord_planned` of the header.
 #[repr(C)]
-#[derive(Drop)]
+#[derive(Clone, Copy)]
 pub struct Planned {
     pub number: u32,
     pub second: u32,
@@ -79,9 +79,8 @@ fn plan_packed(
     planned_numbers(planner::plan(&disks[..count], list, copies, counts, left))
 }
 
-// `planner::plan` with lent entries. Proved by a walk.
-#[unsafe(no_mangle)]
-pub extern "C" fn jugfjord_plan(
+// `planner::plan` with lent entries.
+pub fn jugfjord_plan(
     rack: &[DiskEntry],
     list: &[u8],
     copies: &mut [u64],
@@ -116,9 +115,8 @@ fn plan_terminal_packed(
     planned_numbers(plan_terminal::plan_terminal(&disks[..count], list, copies, counts, left))
 }
 
-// `plan_terminal::plan_terminal` with lent entries. Proved by the walk of `jugfjord_plan`.
-#[unsafe(no_mangle)]
-pub extern "C" fn jugfjord_plan_terminal(
+// `plan_terminal::plan_terminal` with lent entries.
+pub fn jugfjord_plan_terminal(
     rack: &[DiskEntry],
     list: &[u8],
     copies: &mut [u64],
@@ -154,9 +152,8 @@ fn plan_after_packed(
     planned_numbers(plan_after::plan_after(&disks[..count], list, earlier, copies, counts, left))
 }
 
-// `plan_after::plan_after` with lent entries. Proved by a walk.
-#[unsafe(no_mangle)]
-pub extern "C" fn jugfjord_plan_after(
+// `plan_after::plan_after` with lent entries.
+pub fn jugfjord_plan_after(
     rack: &[DiskEntry],
     list: &[u8],
     earlier: &[u8],

@@ -14,7 +14,7 @@ use refusal::Refusal;
 
 // `struct jugfjord_read_plan` of the header.
 #[repr(C)]
-#[derive(Drop)]
+#[derive(Clone, Copy)]
 pub struct ReadPlan {
     pub number: u32,
     pub second: u32,
@@ -58,7 +58,7 @@ fn read_numbers(answer: ReadAnswer) -> ReadPlan
 }
 
 // The numbers of reading's answer, and the disks that were read: none after a refusal.
-#[derive(Drop)]
+#[derive(Clone, Copy)]
 pub struct ReadPacked {
     pub plan: ReadPlan,
     pub rack: PackedDisks,
@@ -97,9 +97,8 @@ fn read_packed(
     ReadPacked { plan, rack }
 }
 
-// `reader::read` with lent entries, its answer as plain numbers. Proved by a walk.
-#[unsafe(no_mangle)]
-pub extern "C" fn jugfjord_read(
+// `reader::read` with lent entries, its answer as plain numbers.
+pub fn jugfjord_read(
     text: &[u8],
     rack: &mut [DiskEntry],
     copies: &mut [u64],
@@ -118,8 +117,7 @@ pub extern "C" fn jugfjord_read(
 }
 
 // `reader::judge_text` with its answer as plain numbers.
-#[unsafe(no_mangle)]
-pub extern "C" fn jugfjord_judge(text: &[u8]) -> ReadPlan
+pub fn jugfjord_judge(text: &[u8]) -> ReadPlan
     ensures { JudgePromise text.now (read_fields result) }
 {
     read_numbers(reader::judge_text(text))

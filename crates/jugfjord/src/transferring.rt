@@ -10,7 +10,7 @@ use transfers::TransfersAnswer;
 
 // `struct jugfjord_transferred` of the header.
 #[repr(C)]
-#[derive(Drop)]
+#[derive(Clone, Copy)]
 pub struct Transferred {
     pub number: u32,
     pub second: u32,
@@ -48,8 +48,7 @@ fn transferred_numbers(answer: TransfersAnswer) -> Transferred
 }
 
 // `transfers::transfers_counted` with its answer as plain numbers.
-#[unsafe(no_mangle)]
-pub extern "C" fn jugfjord_transfers(
+pub fn jugfjord_transfers(
     old: &[u8],
     new: &[u8],
     list: &mut [u64],

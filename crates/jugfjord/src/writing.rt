@@ -14,7 +14,7 @@ use writer::Written;
 
 // `struct jugfjord_written` of the header.
 #[repr(C)]
-#[derive(Drop)]
+#[derive(Clone, Copy)]
 pub struct WrittenNumbers {
     pub number: u32,
     pub second: u32,
@@ -66,9 +66,8 @@ fn write_packed(
     written_numbers(writer::write(&disks[..count], copies, counts, left, left_films, text))
 }
 
-// `writer::write` with lent entries. Proved by a walk.
-#[unsafe(no_mangle)]
-pub extern "C" fn jugfjord_write(
+// `writer::write` with lent entries.
+pub fn jugfjord_write(
     rack: &[DiskEntry],
     copies: &[u64],
     counts: &[u32],

@@ -1,11 +1,8 @@
--- Planning for the disks that a packed rack holds: the numbers that are lent on are theirs, and what is promised for these numbers is promised for the disks.
+-- Planning for the disks that a packed rack holds: what is promised for the numbers that are lent on is promised for the disks.
 use mathlib.Core.Path.{◌≡◌, sym, subst}
 use mathlib.Core.List.{List}
-use Prim.Native.Nat.{ℕ, ◌≤◌}
-use native.Mathlib.Omega.{arith}
+use Prim.Native.Nat.{ℕ}
 use lib.ListN.{length, take}
-use mir.Val.{Val}
-use denote.Laws.{Is}
 use Rattle.refusal.specs.Verdict.{Numbers}
 use Rattle.placement.specs.Rack.{Disk}
 use Rattle.placement.specs.Packed.{disks_in}
@@ -13,20 +10,13 @@ use Rattle.placement.specs.Tables.{Tables}
 use Rattle.placement.specs.Planning.{Call, call, PlanSums}
 use Rattle.disk_entries.specs.Entries.{held_disks}
 use Rattle.disk_entries.specs.declared.PackedDisks.{PackedDisks}
-use Rattle.disk_entries.specs.contracts.PackedDisks as packed
-use Rattle.disk_entries.proofs.Held.{places_65, length_held, held_same}
+use Rattle.disk_entries.proofs.Held.{held_same}
 
-module _ (p : PackedDisks) (n : ℕ) (held : n ≡ length (held_disks p)) where
-  -- There are as many numbers as disks are held.
-  pub held_few : (vs : List Val) → Is packed.the_row p vs → n ≤ length p.disks
-  held_few vs is =
-      let full = places_65 p vs is in
-      omega (arith, held, length_held p full, full)
-
-  -- A promise for them, with the numbers of the answer that is given.
-  pub held_promise :
-      (Promise : Call → Tables → Tables → Numbers PlanSums → Type 0) {list : List ℕ} {entry exit : Tables} {told answer : Numbers PlanSums}
-      → answer ≡ told → Promise (call (disks_in (take n p.disks)) list) entry exit told → Promise (call (held_disks p) list) entry exit answer
-  held_promise Promise {list} {entry} {exit} {told} {answer} same promise =
-      subst (λ (rack : List Disk). Promise (call rack list) entry exit answer) (held_same p n held)
-      (subst (Promise (call (disks_in (take n p.disks)) list) entry exit) (sym same) promise)
+-- A promise for them, with the numbers of the answer that is given.
+pub held_promise :
+    (p : PackedDisks) (n : ℕ) → n ≡ length (held_disks p) → (Promise : Call → Tables → Tables → Numbers PlanSums → Type 0)
+    → {list : List ℕ} {entry exit : Tables} {told answer : Numbers PlanSums} → answer ≡ told
+    → Promise (call (disks_in (take n p.disks)) list) entry exit told → Promise (call (held_disks p) list) entry exit answer
+held_promise p n held Promise {list} {entry} {exit} {told} {answer} same promise =
+    subst (λ (rack : List Disk). Promise (call rack list) entry exit answer) (held_same p n held)
+    (subst (Promise (call (disks_in (take n p.disks)) list) entry exit) (sym same) promise)
