@@ -3,7 +3,7 @@ use crate::draw::{draw, from_to};
 
 // A case: how many disks, their slots and load, and up to how many times as large a disk can be; how many records, of which
 // demands, how many bytes behind them, and which table is lent too short.
-#[derive(Drop)]
+#[derive(Clone, Copy)]
 pub(crate) struct Case {
     pub(crate) number: u64,
     pub(crate) disks: u32,

@@ -23,7 +23,7 @@ const UNUSED_ENTRY: u64 = 12_884_901_891_000_000_000;
 
 // The plain planner's answer and how many copies it stored, whether it planned for unequal disks, and whether the proved planner
 // gave the same answer and tables.
-#[derive(Drop)]
+#[derive(Clone, Copy)]
 pub(crate) struct Compared {
     pub(crate) plain: Outcome,
     pub(crate) copies: u64,

@@ -1,6 +1,8 @@
 // Runs the proved planner and the plain planner on many racks and lists, compares every place of every table and every number
 // of the answers, and prints how many cases ran, how many were refused, how many were planned for unequal disks, what was served
 // and left in all, how many copies and left films that makes, and how many cases differ.
+#![tactic(auto)]
+
 mod bytes;
 mod case;
 mod compare;
@@ -11,14 +13,14 @@ mod rack;
 
 use case::case_of;
 use compare::{Compared, compare};
-use libc::STDOUT_FILENO;
+use std::io;
 
 // How many cases are run.
 const CASES: u64 = 25_000;
 
 // How many cases ran, how many were refused, how many were planned for unequal disks, what was served and left in all, how many
 // copies stand on all disks, how many films are left, and how many cases differ.
-#[derive(Drop)]
+#[derive(Clone, Copy)]
 struct Tally {
     cases: u64,
     refused: u64,
@@ -72,22 +74,15 @@ fn run_cases(cases: u64) -> Tally {
     t
 }
 
-// Writes a word and a number on a line.
-fn print_line(word: &[u8], n: u64) {
-    io::write_all(STDOUT_FILENO, word);
-    io::print_decimal(STDOUT_FILENO, n);
-    io::write_all(STDOUT_FILENO, b"\n");
-}
-
 // Runs all cases and writes the tally.
-fn main() {
+fn main(rt: HostRuntime) -> io::Result<()> {
     let t = run_cases(CASES);
-    print_line(b"cases ", t.cases);
-    print_line(b"refused ", t.refused);
-    print_line(b"mixed ", t.mixed);
-    print_line(b"served ", t.served);
-    print_line(b"left ", t.unserved);
-    print_line(b"copies ", t.copies);
-    print_line(b"left films ", t.left_films);
-    print_line(b"differ ", t.differ);
+    println!(rt; "cases {}", t.cases)?;
+    println!(rt; "refused {}", t.refused)?;
+    println!(rt; "mixed {}", t.mixed)?;
+    println!(rt; "served {}", t.served)?;
+    println!(rt; "left {}", t.unserved)?;
+    println!(rt; "copies {}", t.copies)?;
+    println!(rt; "left films {}", t.left_films)?;
+    println!(rt; "differ {}", t.differ)
 }

@@ -19,7 +19,7 @@ use refusals::call_refusal;
 use shelf::shelve_films;
 
 // How many places of each table are lent.
-#[derive(Drop)]
+#[derive(Clone, Copy)]
 pub(crate) struct Call {
     pub(crate) copies: usize,
     pub(crate) counts: usize,
@@ -27,7 +27,7 @@ pub(crate) struct Call {
 }
 
 // What planning answers: the refusal's number and second number, or 0, 0 and what the plan serves and leaves.
-#[derive(Drop)]
+#[derive(Clone, Copy)]
 pub(crate) struct Outcome {
     pub(crate) refusal: u32,
     pub(crate) second: u64,

@@ -2,14 +2,27 @@
 //
 // Three lent numbers say what reading came to, so that contracts can name it: `kept`, how many bytes stand for all that came;
 // `last`, what the last read answered (bytes that came, 0 at the end of the input, -1 where it failed); and `turns`, how many
-// chunks may still be read.
-ghost use Rattle.std.specs.Prelude.{◌≡◌, true, ◌+◌, ◌-◌, ◌≤◌, ◌<◌, length, take};
+// chunks may still be read. A read that fails ends each function with its error.
+ghost use Rattle.std.specs.Prelude.{◌≡◌, true, ◌+◌, ◌-◌, ◌≤◌, ◌<◌, length, take, OnErr, negsuc};
 ghost use Rattle.plan_output.specs.Input.{most_kept};
-ghost use Rattle.plan.specs.Answers.{goes_on, is_end, bytes_of};
+ghost use Rattle.std.specs.Io.{ReadsAtMost};
+ghost use Rattle.plan.specs.Answers.{answer_number, goes_on, is_end, bytes_of};
 ghost use Rattle.plan.specs.Reading.{OneRead, SpaceRead, Counted, Settled, ReadOn, InputRead};
 
-use libc::STDIN_FILENO;
 use plan_output::keep;
+use std::io;
+use std::io::Read;
+
+// The number that stands for what a read into this space answered.
+fn answer_number(read: &io::Result<usize>, space: &[u8]) -> isize
+    requires { ReadsAtMost read.now space.now }
+    ensures { result ≡ answer_number read.now }
+{
+    match read {
+        Ok(n) => *n as isize,
+        Err(_) => -1,
+    }
+}
 
 // Whether more may come behind a read that answered this.
 fn goes_on(answer: isize) -> bool
@@ -36,104 +49,153 @@ fn bytes_of(answer: isize) -> usize
 }
 
 // Reads once, counts what came and notes the answer. More may come, and the space has room for what is kept of it.
-fn read_next(space: &mut [u8], kept: &mut usize, last: &mut isize)
-    requires last_value { goes_on last.old ≡ true }
-    requires in_bounds { 1 ≤ length space.old }
-    requires most_kept_bound { most_kept ≤ kept.old + length space.old }
-    ensures { OneRead (length space.old) kept.old kept.new last.new }
+fn read_next<R: Read>(
+    reader: &mut R,
+    space: &mut [u8],
+    kept: &mut usize,
+    last: &mut isize,
+) -> io::Result<()>
+    requires more { goes_on last.old ≡ true }
+    requires space_not_empty { 1 ≤ length space.old }
+    requires room { most_kept ≤ kept.old + length space.old }
+    ensures one { OneRead (length space.old) kept.old kept.new last.new }
+    ensures failed { OnErr result (last.new ≡ negsuc 0) }
 {
-    let answer = libc::read(STDIN_FILENO, space);
+    let read = reader.read(space);
+    let answer = answer_number(&read, space);
     let before = *kept;
     let more = bytes_of(answer);
     *kept = keep(before, more);
     *last = answer;
+    read?;
+    Ok(())
 }
 
 // Reads once into the space behind what is kept. Bytes before it stay as they are.
-fn read_behind(space: &mut [u8], kept: &mut usize, last: &mut isize)
-    requires last_value { goes_on last.old ≡ true }
+fn read_behind<R: Read>(
+    reader: &mut R,
+    space: &mut [u8],
+    kept: &mut usize,
+    last: &mut isize,
+) -> io::Result<()>
+    requires more { goes_on last.old ≡ true }
     requires space_len { length space.old ≡ most_kept }
-    requires kept_lt_most_kept { kept.old < most_kept }
-    ensures one_read { OneRead
+    requires room { kept.old < most_kept }
+    ensures one { OneRead
         (length space.old - kept.old) kept.old kept.new last.new }
-    ensures space_unchanged { take kept.old space.new ≡ take kept.old space.old }
+    ensures failed { OnErr result (last.new ≡ negsuc 0) }
+    ensures before { take kept.old space.new ≡ take kept.old space.old }
 {
     let at = *kept;
-    read_next(&mut space[at..], kept, last);
+    read_next(reader, &mut space[at..], kept, last)
 }
 
 // Fills the space from the start of the input, and reads only where there is room and more may come.
-fn fill_space(space: &mut [u8], kept: &mut usize, last: &mut isize)
+#[tactic(auto, using(crate::proofs::OneReads::within_room, crate::proofs::OneReads::grows_some, crate::proofs::OneReads::grows_none, crate::proofs::OneReads::failed_over))]
+fn fill_space<R: Read>(
+    reader: &mut R,
+    space: &mut [u8],
+    kept: &mut usize,
+    last: &mut isize,
+) -> io::Result<()>
     requires space_len { length space.old ≡ most_kept }
-    requires kept_value { kept.old ≡ 0 }
-    requires last_value { goes_on last.old ≡ true }
-    ensures { SpaceRead (length space.old) kept.new last.new }
+    requires none { kept.old ≡ 0 }
+    requires more { goes_on last.old ≡ true }
+    ensures filled { SpaceRead (length space.old) kept.new last.new }
+    ensures failed { OnErr result (last.new ≡ negsuc 0) }
 {
     while *kept < space.len() {
-        read_behind(space, kept, last);
+        read_behind(reader, space, kept, last)?;
         if !goes_on(*last) {
-            return;
+            return Ok(());
         }
     }
+    Ok(())
 }
 
 // Reads one chunk, which is only counted, and takes a turn for it.
-fn read_chunk(chunk: &mut [u8], kept: &mut usize, last: &mut isize, turns: &mut u64)
-    requires last_value { goes_on last.old ≡ true }
-    requires most_kept_in_bounds { most_kept < length chunk.old }
-    requires le_turns { 1 ≤ turns.old }
-    ensures one_read { OneRead (length chunk.old) kept.old kept.new last.new }
-    ensures turns_after { turns.new ≡ turns.old - 1 }
+fn read_chunk<R: Read>(
+    reader: &mut R,
+    chunk: &mut [u8],
+    kept: &mut usize,
+    last: &mut isize,
+    turns: &mut u64,
+) -> io::Result<()>
+    requires more { goes_on last.old ≡ true }
+    requires room { most_kept < length chunk.old }
+    requires turn { 1 ≤ turns.old }
+    ensures one { OneRead (length chunk.old) kept.old kept.new last.new }
+    ensures failed { OnErr result (last.new ≡ negsuc 0) }
+    ensures turns { turns.new ≡ turns.old - 1 }
 {
-    read_next(chunk, kept, last);
     *turns -= 1;
+    read_next(reader, chunk, kept, last)
 }
 
 // Reads chunks, behind a space that is full, to the end of the input or until the turns are used up, which no input does.
-fn count_on(chunk: &mut [u8], kept: &mut usize, last: &mut isize, turns: &mut u64)
-    requires last_value { goes_on last.old ≡ true }
-    requires most_kept_in_bounds { most_kept < length chunk.old }
-    requires kept_value { kept.old ≡ most_kept }
+#[tactic(auto, using(crate::proofs::OneReads::counts_on, crate::proofs::OneReads::counts_none, crate::proofs::OneReads::failed_over))]
+fn count_on<R: Read>(
+    reader: &mut R,
+    chunk: &mut [u8],
+    kept: &mut usize,
+    last: &mut isize,
+    turns: &mut u64,
+) -> io::Result<()>
+    requires more { goes_on last.old ≡ true }
+    requires room { most_kept < length chunk.old }
+    requires full { kept.old ≡ most_kept }
     ensures counted { Counted kept.old kept.new }
     ensures settled { Settled last.new turns.new }
+    ensures failed { OnErr result (last.new ≡ negsuc 0) }
 {
     while *turns > 0 {
-        read_chunk(chunk, kept, last, turns);
+        read_chunk(reader, chunk, kept, last, turns)?;
         let more = goes_on(*last);
         if !more {
-            return;
+            return Ok(());
         }
     }
+    Ok(())
 }
 
-// The choice: where the last read saw the end of the input, or failed, that is all; else the input is counted on.
-fn read_on(chunk: &mut [u8], kept: &mut usize, last: &mut isize, turns: &mut u64)
-    requires most_kept_in_bounds { most_kept < length chunk.old }
-    requires space_read { SpaceRead most_kept kept.old last.old }
-    ensures { ReadOn
-        kept.old kept.new last.old last.new turns.new }
+// The choice: where the last read saw the end of the input, that is all; else the input is counted on.
+fn read_on<R: Read>(
+    reader: &mut R,
+    chunk: &mut [u8],
+    kept: &mut usize,
+    last: &mut isize,
+    turns: &mut u64,
+) -> io::Result<()>
+    requires room { most_kept < length chunk.old }
+    requires space { SpaceRead most_kept kept.old last.old }
+    ensures on { ReadOn kept.old kept.new last.old last.new turns.new }
+    ensures failed { OnErr result (last.new ≡ negsuc 0) }
 {
     if goes_on(*last) {
-        count_on(chunk, kept, last, turns);
+        return count_on(reader, chunk, kept, last, turns);
     }
+    Ok(())
 }
 
 // Reads the whole input: its first bytes into the space, and then as many chunks as there are. `kept` comes with a number that no
 // input has, and begins at 0 here.
-pub(crate) fn read_input(
+#[tactic(auto, using(crate::proofs::WholeReads::input_read, crate::proofs::WholeReads::input_failed))]
+pub(crate) fn read_input<R: Read>(
+    reader: &mut R,
     space: &mut [u8],
     chunk: &mut [u8],
     kept: &mut usize,
     last: &mut isize,
     turns: &mut u64,
-)
+) -> io::Result<()>
     requires space_len { length space.old ≡ most_kept }
-    requires most_kept_in_bounds { most_kept < length chunk.old }
-    requires most_kept_lt_kept { most_kept < kept.old }
-    requires last_value { goes_on last.old ≡ true }
-    ensures { InputRead kept.new last.new turns.new }
+    requires room { most_kept < length chunk.old }
+    requires uncounted { most_kept < kept.old }
+    requires more { goes_on last.old ≡ true }
+    ensures read { InputRead kept.new last.new turns.new }
+    ensures failed { OnErr result (last.new ≡ negsuc 0) }
 {
     *kept = 0;
-    fill_space(space, kept, last);
-    read_on(chunk, kept, last, turns);
+    fill_space(reader, space, kept, last)?;
+    read_on(reader, chunk, kept, last, turns)
 }

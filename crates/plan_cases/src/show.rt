@@ -1,8 +1,8 @@
 // What `plan` prints for an input.
 ghost use Rattle.std.specs.Prelude.{◌≤◌};
 
-use libc::STDOUT_FILENO;
 use plan_output::output;
+use std::io;
 
 // The smaller of a number and a length.
 fn least(n: usize, length: usize) -> usize
@@ -12,14 +12,14 @@ fn least(n: usize, length: usize) -> usize
 }
 
 // Works out the output for the first n bytes of an input in the lent space, and writes it.
-fn show_in(input: &[u8], n: usize, text: &mut [u8]) {
+fn show_in(rt: &impl Print, input: &[u8], n: usize, text: &mut [u8]) -> io::Result<()> {
     let end = least(n, input.len());
     let length = least(output(&input[0..end], text), text.len());
-    io::write_all(STDOUT_FILENO, &text[0..length]);
+    rt.write_all(&text[0..length])
 }
 
 // The same, with space for the longest output.
-pub(crate) fn show(input: &[u8], n: usize) {
+pub(crate) fn show(rt: &impl Print, input: &[u8], n: usize) -> io::Result<()> {
     let mut text = [0u8; 43_885];
-    show_in(input, n, &mut text);
+    show_in(rt, input, n, &mut text)
 }

@@ -1,7 +1,7 @@
 // The cases of a file. A case is a line of nine numbers in columns and a label, and behind it the bytes of its text, if no case
 // before it has them.
 use crate::bytes::{at, low_byte, put, sum, wide};
-use libc::STDOUT_FILENO;
+use std::io;
 
 // The columns: where the next case starts, where the label ends, where the bytes start and how many they are, the length of
 // the text, the byte that fills it up, what is done, at which place, with which value; and the label.
@@ -61,14 +61,15 @@ pub(crate) fn field(file: &[u8], case: usize, column: usize) -> u64 {
 }
 
 // Writes the label of a case.
-pub(crate) fn print_label(file: &[u8], case: usize) {
+pub(crate) fn print_label(rt: &impl Print, file: &[u8], case: usize) -> io::Result<()> {
     let start = sum(case, LABEL);
     let end = field(file, case, LABEL_END) as usize;
     if start <= end {
         if end <= file.len() {
-            io::write_all(STDOUT_FILENO, &file[start..end]);
+            rt.write_all(&file[start..end])?;
         }
     }
+    Ok(())
 }
 
 // The byte at place i of a text of so many bytes that start at a place of the file, filled up with a byte.

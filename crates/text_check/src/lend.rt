@@ -18,14 +18,14 @@ const LEFT_TABLE: u64 = 13;
 const TEXT: u64 = 14;
 
 // What is done: reading, or writing of a plan that was read, with so many disks and left films.
-#[derive(Drop)]
+#[derive(Clone, Copy)]
 pub(crate) enum Task {
     Read,
     Write(PlanRead),
 }
 
 // Which of these is lent with fewer places, and with how many.
-#[derive(Drop)]
+#[derive(Clone, Copy)]
 pub(crate) struct Lent {
     pub(crate) table: u64,
     pub(crate) places: usize,
@@ -48,7 +48,7 @@ pub(crate) fn lent_of(file: &[u8], case: usize) -> Lent {
 }
 
 // What was answered.
-#[derive(Drop)]
+#[derive(Clone, Copy)]
 pub(crate) enum Answer {
     Read(ReadAnswer),
     Written(Written),

@@ -1,5 +1,7 @@
 // Runs texts through reading and writing, and prints what happened: lines damaged in every way that 01 names, numbers at and
 // beyond each limit, long texts, tables too short, racks of unequal disks, and calls of writing.
+#![tactic(auto)]
+
 mod bytes;
 mod case;
 mod lend;
@@ -8,9 +10,13 @@ mod reading;
 mod tables;
 mod writing;
 
+ghost use Rattle.std.specs.Prelude.{◌≤◌, length, IfOk};
+
 use case::{NEXT, field, make_text, print_label};
-use libc::STDOUT_FILENO;
 use reading::read_case;
+use std::io::Read;
+use std::rt::Files;
+use std::{fs, io};
 use tables::{SPACE, UNUSED_BYTE};
 use writing::write_case;
 
@@ -18,54 +24,66 @@ use writing::write_case;
 const FILE: usize = 131_072;
 
 // Runs a case, of writing or of reading, and answers where the next one starts.
-fn run_case(file: &[u8], case: usize, is_writing: bool) -> usize {
+fn run_case(rt: &impl Print, file: &[u8], case: usize, is_writing: bool) -> io::Result<usize> {
     let mut text = [UNUSED_BYTE; SPACE];
     make_text(file, case, &mut text);
-    print_label(file, case);
+    print_label(rt, file, case)?;
     if is_writing {
-        write_case(file, case, &mut text);
+        write_case(rt, file, case, &mut text)?;
     } else {
-        read_case(file, case, &mut text);
+        read_case(rt, file, case, &mut text)?;
     }
-    field(file, case, NEXT) as usize
+    Ok(field(file, case, NEXT) as usize)
 }
 
 // Runs the cases of a file.
-fn run_cases(file: &[u8], is_writing: bool) {
+fn run_cases(rt: &impl Print, file: &[u8], is_writing: bool) -> io::Result<()> {
     let mut case = 0;
     for _ in 0..file.len() {
         if case >= file.len() {
-            return;
+            return Ok(());
         }
-        case = run_case(file, case, is_writing);
+        case = run_case(rt, file, case, is_writing)?;
     }
+    Ok(())
+}
+
+// Reads until the space is full or the input ends, and answers how many bytes came.
+fn read_full<R: Read>(reader: &mut R, space: &mut [u8]) -> io::Result<usize>
+    ensures { IfOk result (λ n. n ≤ length space.new) }
+{
+    let mut done = 0;
+    while done < space.len() {
+        let n = reader.read(&mut space[done..])?;
+        if n == 0 {
+            return Ok(done);
+        }
+        done += n;
+    }
+    Ok(done)
 }
 
 // Reads a file and runs its cases.
-fn run_file(name: &[u8], is_writing: bool) {
+fn run_file(rt: &(impl Files + Print), name: &str, is_writing: bool) -> io::Result<()> {
     let mut file = [0u8; FILE];
-    let fd = os::open_read(name);
-    let n = io::read_full(fd, &mut file);
-    libc::close(fd);
-    run_cases(&file[..n], is_writing);
+    let n = read_full(&mut fs::open(rt, name)?, &mut file)?;
+    run_cases(rt, &file[..n], is_writing)
 }
 
 // Runs the cases of reading of a file.
-fn run_reading(name: &[u8]) {
-    io::write_all(STDOUT_FILENO, b"reading ");
-    io::write_all(STDOUT_FILENO, name);
-    io::write_all(STDOUT_FILENO, b"\n");
-    run_file(name, false);
+fn run_reading(rt: &(impl Files + Print), name: &str) -> io::Result<()> {
+    println!(rt; "reading {name}")?;
+    run_file(rt, name, false)
 }
 
 // Runs all cases.
-fn main() {
-    run_reading(b"lines");
-    run_reading(b"limits");
-    run_reading(b"long");
-    run_reading(b"lending");
-    run_reading(b"unequal");
-    run_reading(b"racks");
-    io::write_all(STDOUT_FILENO, b"writing\n");
-    run_file(b"writing", true);
+fn main(rt: HostRuntime) -> io::Result<()> {
+    run_reading(&rt, "lines")?;
+    run_reading(&rt, "limits")?;
+    run_reading(&rt, "long")?;
+    run_reading(&rt, "lending")?;
+    run_reading(&rt, "unequal")?;
+    run_reading(&rt, "racks")?;
+    println!(rt; "writing")?;
+    run_file(&rt, "writing", true)
 }

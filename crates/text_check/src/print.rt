@@ -1,69 +1,69 @@
 // Answers of reading and writing in 01's numbers, written to standard output.
 use crate::lend::Answer;
-use libc::STDOUT_FILENO;
 use reader::{PlanRead, ReadAnswer};
 use refusal::Refusal;
+use std::io;
 use writer::Written;
 
 // Writes a space and a number.
-fn print_next(n: u64) {
-    io::write_all(STDOUT_FILENO, b" ");
-    io::print_decimal(STDOUT_FILENO, n);
+fn print_next(rt: &impl Print, n: u64) -> io::Result<()> {
+    print!(rt; " {n}")
 }
 
 // Writes a refusal, with its second number if it has one.
-fn print_refusal(r: Refusal) {
-    io::write_all(STDOUT_FILENO, b"refused");
-    print_next(refusal::number(r) as u64);
+fn print_refusal(rt: &impl Print, r: Refusal) -> io::Result<()> {
+    print!(rt; "refused")?;
+    print_next(rt, refusal::number(r) as u64)?;
     if refusal::second(r) > 0 {
-        print_next(refusal::second(r) as u64);
+        print_next(rt, refusal::second(r) as u64)?;
     }
+    Ok(())
 }
 
 // Writes a plan's numbers.
-fn print_plan(p: PlanRead) {
-    io::write_all(STDOUT_FILENO, b"plan");
-    print_next(p.disks as u64);
-    print_next(p.served);
-    print_next(p.unserved);
-    print_next(p.left as u64);
+fn print_plan(rt: &impl Print, p: PlanRead) -> io::Result<()> {
+    print!(rt; "plan")?;
+    print_next(rt, p.disks as u64)?;
+    print_next(rt, p.served)?;
+    print_next(rt, p.unserved)?;
+    print_next(rt, p.left as u64)
 }
 
 // Writes an answer of reading.
-pub(crate) fn print_read(a: ReadAnswer) {
+pub(crate) fn print_read(rt: &impl Print, a: ReadAnswer) -> io::Result<()> {
     match a {
-        ReadAnswer::Plan(p) => print_plan(p),
-        ReadAnswer::Refused(r) => print_refusal(r),
+        ReadAnswer::Plan(p) => print_plan(rt, p),
+        ReadAnswer::Refused(r) => print_refusal(rt, r),
     }
 }
 
 // Writes an answer.
-pub(crate) fn print_answer(a: Answer) {
+pub(crate) fn print_answer(rt: &impl Print, a: Answer) -> io::Result<()> {
     match a {
-        Answer::Read(r) => print_read(r),
-        Answer::Written(w) => print_written(w),
+        Answer::Read(r) => print_read(rt, r),
+        Answer::Written(w) => print_written(rt, w),
     }
 }
 
 // Writes the number of a refusal of writing, or the length of the text.
-fn print_written(w: Written) {
+fn print_written(rt: &impl Print, w: Written) -> io::Result<()> {
     match w {
-        Written::Length(length) => print_length(length),
-        Written::Refused(r) => print_refusal(r),
+        Written::Length(length) => print_length(rt, length),
+        Written::Refused(r) => print_refusal(rt, r),
     }
 }
 
 // Writes the length of a text.
-fn print_length(length: u64) {
-    io::write_all(STDOUT_FILENO, b"length");
-    print_next(length);
+fn print_length(rt: &impl Print, length: u64) -> io::Result<()> {
+    print!(rt; "length")?;
+    print_next(rt, length)
 }
 
 // Writes what something holds: that it is untouched, or its digest.
-pub(crate) fn print_digest(digest: u64, untouched: u64) {
+pub(crate) fn print_digest(rt: &impl Print, digest: u64, untouched: u64) -> io::Result<()> {
     if digest == untouched {
-        io::write_all(STDOUT_FILENO, b"untouched");
+        print!(rt; "untouched")
     } else {
-        io::print_hex(STDOUT_FILENO, digest, 16);
+        print!(rt; "{digest:016x}")
     }
 }

@@ -7,11 +7,11 @@ use crate::print::{print_answer, print_digest};
 use crate::tables::{
     COPIES, DISKS, LEFT, SPACE, UNTOUCHED_SPACE, UNUSED, UNUSED_BYTE, UNUSED_ENTRY, entry_at, wide,
 };
-use libc::STDOUT_FILENO;
 use reader::PlanRead;
+use std::io;
 
 // What a case sets.
-#[derive(Drop)]
+#[derive(Clone, Copy)]
 struct Change {
     what: u64,
     place: usize,
@@ -19,7 +19,7 @@ struct Change {
 }
 
 // What writing to a space gave: the answer, and the space's digest.
-#[derive(Drop)]
+#[derive(Clone, Copy)]
 pub(crate) struct Space {
     pub(crate) answer: Answer,
     pub(crate) digest: u64,
@@ -121,6 +121,7 @@ fn changed(h: Change, task: Task) -> Task {
 
 // Sets what the case sets, writes the rack and the tables, and says what writing gave.
 fn write_changed(
+    rt: &impl Print,
     h: Change,
     l: Lent,
     task: Task,
@@ -128,17 +129,18 @@ fn write_changed(
     copies: &mut [u64; COPIES],
     counts: &mut [u32; DISKS],
     left: &mut [u64; LEFT],
-) {
+) -> io::Result<()> {
     set_entry(h, 7, 8, rack);
     set_like(h, rack);
     set_entry(h, 1, 2, copies);
     set_count(h, counts);
     set_entry(h, 4, 5, left);
-    print_space(write_to_space(l, changed(h, task), rack, copies, counts, left));
+    let space = write_to_space(l, changed(h, task), rack, copies, counts, left);
+    print_space(rt, space)
 }
 
 // Reads a text into a rack and tables, and writes them with what the case sets, on the parts that it lends.
-fn read_and_write(h: Change, l: Lent, text: &mut [u8]) {
+fn read_and_write(rt: &impl Print, h: Change, l: Lent, text: &mut [u8]) -> io::Result<()> {
     let mut rack = [UNUSED_ENTRY; DISKS];
     let mut copies = [UNUSED_ENTRY; COPIES];
     let mut counts = [UNUSED; DISKS];
@@ -153,6 +155,7 @@ fn read_and_write(h: Change, l: Lent, text: &mut [u8]) {
         &mut left,
     );
     write_changed(
+        rt,
         h,
         l,
         task_after(read),
@@ -160,26 +163,30 @@ fn read_and_write(h: Change, l: Lent, text: &mut [u8]) {
         &mut copies,
         &mut counts,
         &mut left,
-    );
+    )
 }
 
 // Writes what writing gave.
-fn print_space(s: Space) {
-    io::write_all(STDOUT_FILENO, b": ");
-    let answer = s.answer;
-    print_answer(answer);
-    io::write_all(STDOUT_FILENO, b", space ");
-    print_digest(s.digest, UNTOUCHED_SPACE);
-    io::write_all(STDOUT_FILENO, b"\n");
+fn print_space(rt: &impl Print, s: Space) -> io::Result<()> {
+    print!(rt; ": ")?;
+    print_answer(rt, s.answer)?;
+    print!(rt; ", space ")?;
+    print_digest(rt, s.digest, UNTOUCHED_SPACE)?;
+    println!(rt)
 }
 
 // Runs a case of writing on its text.
-pub(crate) fn write_case(file: &[u8], case: usize, text: &mut [u8]) {
+pub(crate) fn write_case(
+    rt: &impl Print,
+    file: &[u8],
+    case: usize,
+    text: &mut [u8],
+) -> io::Result<()> {
     let h = Change {
         what: field(file, case, WHAT),
         place: field(file, case, PLACE) as usize,
         value: field(file, case, VALUE),
     };
     let n = least(field(file, case, TOTAL) as usize, text.len());
-    read_and_write(h, lent_of(file, case), &mut text[0..n]);
+    read_and_write(rt, h, lent_of(file, case), &mut text[0..n])
 }

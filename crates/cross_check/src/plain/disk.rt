@@ -3,7 +3,7 @@ use crate::plain::memory::{COPIES, COUNTS, LIST, at, film_of, minus, number_of, 
 use crate::plain::ranks::{Term, if_so, place_of, put_in_order, total};
 
 // A disk: its first copy place, its slots and load, and how many records there are.
-#[derive(Drop)]
+#[derive(Clone, Copy)]
 struct Disk {
     place: usize,
     slots: usize,
