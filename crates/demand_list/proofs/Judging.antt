@@ -9,7 +9,7 @@ use lib.ListN.{length}
 use Rattle.placement.specs.Items.{Item, occurrences}
 use Rattle.placement.specs.Rack.{in_range, most_film, most_plan_film, most_demand}
 use Rattle.refusal.specs.Verdict.{Verdict, given, refused, unless}
-use Rattle.placement.specs.Records.{number32, record_at, records_from, records_of, record_count, record_judged, records_judged_from, records_judged}
+use Rattle.placement.specs.Records.{number32, record_at, records_from, record_judged, records_judged_from, records_judged}
 
 -- The records before record i, last one first.
 abbrev pub earlier : List ℕ → ℕ → List Item

@@ -1,11 +1,11 @@
 -- One turn of the loops that pack and unpack.
 use mathlib.Core.Path.{◌≡◌, sym, ap, ap₂, ◌∙◌}
 use mathlib.Core.List.{List, [], ◌∷◌, ◌++◌}
-use Prim.Native.Nat.{ℕ, suc, ◌+◌, ◌≤◌, ◌<◌}
+use Prim.Native.Nat.{ℕ, suc, ◌+◌, ◌<◌}
 use native.Mathlib.Omega.{arith}
-use lib.ListN.{length, get_or, set, take, drop, length-map, get_or-map}
+use lib.ListN.{length, get_or, set, take, length-map, get_or-map}
 use lib.Seq.{take-suc, take-suc-set}
-use Rattle.placement.specs.Rack.{Disk, disk}
+use Rattle.placement.specs.Rack.{Disk}
 use Rattle.placement.specs.Packed.{disk_in, disks_in}
 use Rattle.disk_entries.specs.Entries.{disk_of, disks_of_entries}
 use Rattle.disk_entries.specs.declared.DiskEntry.{DiskEntry}

@@ -1,5 +1,4 @@
-// The rack as a caller lends it: a slice of disk entries, read and written by two functions. Each is proved by a walk of
-// its MIR, by hand; the functions that they call are covered.
+// The rack as a caller lends it: a slice of disk entries, read and written by two functions.
 #![tactic(auto)]
 
 ghost use Rattle.std.specs.Prelude.{◌≡◌, ◌++◌, min, length, take, drop};

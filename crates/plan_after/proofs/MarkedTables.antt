@@ -2,14 +2,14 @@
 use mathlib.Core.Path.{◌≡◌, refl, sym, ap, ap₂, ◌∙◌}
 use mathlib.Core.Bool.{Bool, true, cond}
 use mathlib.Core.List.{List, [], ◌∷◌, map, ◌++◌, append_assoc}
-use Prim.Native.Nat.{ℕ, zero, suc, ◌+◌, ◌-◌, ◌≤◌, ◌<◌}
+use Prim.Native.Nat.{ℕ, zero, suc, ◌-◌, ◌≤◌, ◌<◌}
 use native.Mathlib.Omega.{arith}
 use borrow.Author.Tests.{ne_eqb, le-leb}
 use lib.Dec.{leb, eqb}
 use lib.ListN.{length, take, drop, replicate, length-map}
 use lib.Seq.{take_at, drop_at}
 use Rattle.placement.specs.Items.{Item, occurrences}
-use Rattle.placement.specs.Copies.{Copy, copy, unmarked, marked_with, halves_of, copy_of, mark_for, marked_disk, marked}
+use Rattle.placement.specs.Copies.{Copy, unmarked, marked_with, halves_of, copy_of, mark_for, marked_disk, marked}
 use Rattle.placement.specs.Rack.{Disk}
 use Rattle.placement.specs.Tables.{entry_of, copy_in, copy_entry, padded, places, written}
 use Rattle.placement.specs.Plan.{disk_accepted, disks_accepted}

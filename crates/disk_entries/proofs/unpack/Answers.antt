@@ -1,11 +1,10 @@
 use mathlib.Core.Path.{sym, ◌∙◌}
-use Prim.Native.Nat.{◌<◌, ◌≤◌}
+use Prim.Native.Nat.{◌<◌}
 use native.Mathlib.Omega.{arith}
-use lib.ListN.{length, length-map, length-take}
+use lib.ListN.{length-map, length-take}
 use Rattle.placement.specs.Rack.{disk}
 use Rattle.placement.specs.Packed.{disks_in}
 use Rattle.disk_entries.specs.Entries.{disk_of, disks_of_entries, held_disks}
-use Rattle.disk_entries.proofs.Lists.{over_least}
 use Rattle.disk_entries.proofs.Held.{get_d_held}
 use Rattle.disk_entries.proofs.Loops.{one_entry_more}
 use Rattle.disk_entries.proofs.unpack.Goals as goal

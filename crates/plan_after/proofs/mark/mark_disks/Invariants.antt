@@ -1,7 +1,7 @@
 -- `plan_after::mark_disks` meets its contract. The invariant: what marking from disk `d` on leaves is what marking all disks leaves.
 use mathlib.Core.Path.{◌≡◌}
 use mathlib.Core.List.{List}
-use Prim.Native.Nat.{ℕ, ◌+◌, ◌-◌}
+use Prim.Native.Nat.{ℕ, ◌-◌}
 use lib.ListN.{length, drop}
 use Rattle.placement.specs.Items.{Item}
 use Rattle.placement.specs.Copies.{layout_of}
