@@ -1,3 +1,4 @@
+pub mod Refusals
 pub mod LongRacks
 pub mod ReadInto
 pub mod NumbersHold

@@ -1,2 +1,3 @@
 -- What the proofs of the C functions that plan share.
 mod HeldDisks
+mod PlanWalk

@@ -12,11 +12,11 @@ use Rattle.disk_entries.specs.Entries.{held_disks}
 use Rattle.disk_entries.specs.declared.PackedDisks.{PackedDisks}
 use Rattle.disk_entries.proofs.Held.{held_same}
 
--- A promise for them, with the numbers of the answer that is given.
-pub held_promise :
-    (p : PackedDisks) (n : ℕ) → n ≡ length (held_disks p) → (Promise : Call → Tables → Tables → Numbers PlanSums → Type 0)
-    → {list : List ℕ} {entry exit : Tables} {told answer : Numbers PlanSums} → answer ≡ told
-    → Promise (call (disks_in (take n p.disks)) list) entry exit told → Promise (call (held_disks p) list) entry exit answer
-held_promise p n held Promise {list} {entry} {exit} {told} {answer} same promise =
-    subst (λ (rack : List Disk). Promise (call rack list) entry exit answer) (held_same p n held)
-    (subst (Promise (call (disks_in (take n p.disks)) list) entry exit) (sym same) promise)
+module _ (p : PackedDisks) (n : ℕ) (held : n ≡ length (held_disks p)) where
+  -- A promise for them, with the numbers of the answer that is given.
+  pub held_promise :
+      (Promise : Call → Tables → Tables → Numbers PlanSums → Type 0) {list : List ℕ} {entry exit : Tables} {told answer : Numbers PlanSums}
+      → answer ≡ told → Promise (call (disks_in (take n p.disks)) list) entry exit told → Promise (call (held_disks p) list) entry exit answer
+  held_promise Promise {list} {entry} {exit} {told} {answer} same promise =
+      subst (λ (rack : List Disk). Promise (call rack list) entry exit answer) (held_same p n held)
+      (subst (Promise (call (disks_in (take n p.disks)) list) entry exit) (sym same) promise)

@@ -1,19 +1,10 @@
--- `jugfjord_plan` meets its contract: the first 65 disks of a rack keep the promise for it.
-use mathlib.Core.Path.{subst}
-use mathlib.Core.List.{List}
-use Rattle.placement.specs.Rack.{Disk}
-use Rattle.placement.specs.Tables.{Tables, tables}
-use Rattle.placement.specs.Planning.{call}
+-- `jugfjord_plan` meets its contract: what `plan_packed` ensures of the packed disks.
 use Rattle.placement.specs.PlanPromise.{PlanPromise}
 use Rattle.placement.proofs.LongRacks.{cut_promise}
-use Rattle.disk_entries.specs.Entries.{disks_of_entries}
-use Rattle.jugfjord.specs.Numbers.{planned_fields}
+use Rattle.jugfjord.proofs.planning.PlanWalk.{plan_meets}
 use Rattle.jugfjord.proofs.planning.jugfjord_plan.Goals as goal
 
 pub returns : goal.returns
 returns c =
-    let a = c.args in
-    let entry : Tables = tables a.copies.now a.counts.now a.left.now in
-    let exit : Tables = tables c.plan_packed.new.copies c.plan_packed.new.counts c.plan_packed.new.left in
-    cut_promise (disks_of_entries a.rack.now) a.list.now entry
-    (subst (λ (rack : List Disk). PlanPromise (call rack a.list.now) entry exit (planned_fields c.plan_packed.result)) c.pack.ensures c.plan_packed.ensures)
+    plan_meets PlanPromise (λ rack list entry exit answer. cut_promise rack list entry) c.args.rack.now _ c.pack.ensures
+    c.plan_packed.ensures
