@@ -27,44 +27,61 @@ fn read_full<R: Read>(reader: &mut R, space: &mut [u8]) -> io::Result<usize>
     Ok(done)
 }
 
-// Reads the file into the space and answers how many bytes came. A missing file is said so.
-fn read_file(rt: &(impl Files + Print), name: &str, input: &mut [u8]) -> io::Result<usize>
+// Reads the file into the space and answers how many bytes came. A missing file is said so, and a name that is no text is one of a
+// missing file.
+fn read_file(rt: &(impl Files + Print), name: &[u8], input: &mut [u8]) -> io::Result<usize>
     ensures { IfOk result (λ n. n ≤ length input.new) }
 {
-    match fs::open(rt, name) {
-        Ok(mut file) => read_full(&mut file, input),
-        Err(_) => {
-            println!(rt; "no such file")?;
-            Ok(0)
+    if let Ok(name) = str::from_utf8(name) {
+        if let Ok(mut file) = fs::open(rt, name) {
+            return read_full(&mut file, input);
         }
     }
+    println!(rt; "no such file")?;
+    Ok(0)
 }
 
 // Prints the name of the file and the output for it.
-fn run_file(rt: &(impl Files + Print), name: &str) -> io::Result<()> {
+fn run_file(rt: &(impl Files + Print), name: &[u8]) -> io::Result<()> {
     let mut input = [0u8; 1_024];
     let n = read_file(rt, name, &mut input)?;
-    println!(rt; "{name}")?;
+    rt.write_all(name)?;
+    println!(rt)?;
     show(rt, &input, n)
+}
+
+// Runs the file whose name ends at a place, if one does, and answers where the next name starts.
+fn run_name(
+    rt: &(impl Files + Print),
+    names: &[u8],
+    start: usize,
+    end: usize,
+) -> io::Result<usize> {
+    if end >= names.len() {
+        return Ok(start);
+    }
+    if names[end] != b'\n' {
+        return Ok(start);
+    }
+    if start <= end {
+        run_file(rt, &names[start..end])?;
+    }
+    Ok(end + 1)
 }
 
 // Runs the files that are listed, a name a line.
 fn run_names(rt: &(impl Files + Print), names: &[u8]) -> io::Result<()> {
-    match str::from_utf8(names) {
-        Ok(text) => {
-            for name in text.lines() {
-                run_file(rt, name)?;
-            }
-            Ok(())
-        }
-        Err(_) => Err(io::Error::from(io::ErrorKind::InvalidData)),
+    let mut start = 0;
+    for i in 0..names.len() {
+        start = run_name(rt, names, start, i)?;
     }
+    Ok(())
 }
 
 // Prints the label of a long input, and the output for the part of it that is kept, counted in two halves.
 fn run_long(rt: &(impl Files + Print), length: usize) -> io::Result<()> {
     let mut input = [0u8; 8_219];
-    read_file(rt, "long", &mut input)?;
+    read_file(rt, b"long", &mut input)?;
     let half = length / 2;
     let n = keep(keep(0, half), length - half);
     println!(rt; "long {length}")?;
@@ -74,8 +91,8 @@ fn run_long(rt: &(impl Files + Print), length: usize) -> io::Result<()> {
 // Runs the files, then 1,024 records, 1,025 with and without odd bytes, and of 1,026 records and of 1 MiB what is kept.
 fn main(rt: HostRuntime) -> io::Result<()> {
     let mut names = [0u8; 1_024];
-    let n = read_file(&rt, "names", &mut names)?;
-    run_names(&rt, &names[..n])?;
+    read_file(&rt, b"names", &mut names)?;
+    run_names(&rt, &names)?;
     run_long(&rt, 8_204)?;
     run_long(&rt, 8_212)?;
     run_long(&rt, 8_215)?;
