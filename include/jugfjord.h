@@ -37,7 +37,7 @@
  * `served` is the sum of viewers over all copies, `unserved` what is left in sum.
  *
  * Link with libjugfjord.a, for x86-64 Linux: `pkg-config --cflags --libs jugfjord` after `./install`, or
- * target/staticlib/libjugfjord.a, which `rt staticlib jugfjord` writes.
+ * target/staticlib/libjugfjord.a, which `./install` and `./test` write.
  */
 #ifndef JUGFJORD_H
 #define JUGFJORD_H

@@ -3,12 +3,12 @@
 # shellcheck shell=bash
 
 shown='' # see step
-made_with='rattle-kit-5b-plain logic 097e4c862dff5811' # what `rt version` printed where this tree was made
+made_with='rattle-kit-13f logic dac8208d650f15bf' # what `rt version` printed where this tree was made
 
-# Seconds that each crate's proof takes on two idle cores. Of a crate that is not listed no time is said.
+# Seconds that each crate's proof takes from nothing on four idle processors. Of a crate that is not listed no time is said.
 declare -A seconds_of=(
-    [refusal]=4 [placement]=14 [demand_list]=8 [disk_entries]=10 [planner]=47 [plan_terminal]=9 [plan_text]=5 [well_formed]=10 [writer]=36
-    [reader]=50 [plan_after]=26 [transfer_schedule]=4 [transfers]=48 [plan_output]=15 [jugfjord]=28 [plan]=20
+    [refusal]=8 [placement]=15 [demand_list]=10 [disk_entries]=8 [planner]=30 [plan_terminal]=13 [plan_text]=6 [well_formed]=14 [writer]=29
+    [reader]=38 [plan_after]=22 [transfer_schedule]=7 [transfers]=42 [plan_output]=15 [jugfjord]=27 [jugfjord_c]=25 [plan]=41
 )
 
 # Says what a command is, and where it is expected.
@@ -40,13 +40,13 @@ note_version() {
     [[ $found == "$made_with" ]] || echo "Note: 'rt version' is '$found'; it was '$made_with' where this tree was made."
 }
 
-# Opens the log of this run. It is written outside target/, which `rt ci` removes, and stands there at the end.
+# Opens the log of this run, which stands in target/ at the end.
 open_log() {
     kept_log=$PWD/target/$1.log
     log=$(mktemp -t "jugfjord-$1.XXXXXX")
     trap 'mkdir -p target && mv "$log" "$kept_log"' EXIT
     echo "Log: $log; at the end $kept_log."
-    echo "Times are for two idle cores."
+    echo "Times are for four idle processors."
     note_version
 }
 
@@ -85,49 +85,53 @@ step() {
     echo " done, $(duration $((SECONDS - began)))"
 }
 
-# Prints the named crates and what they depend on, at most two a line, in the order of proof: those of one line need nothing of
-# each other.
-levels() {
+# Prints the named crates and what they depend on, lowest first.
+order() {
     awk -v wanted="$*" '
-        function highest(list,    names, count, i, high) { # the highest level among these crates
-            high = -1
-            count = split(list, names, " ")
-            for (i = 1; i <= count; i++) if (level(names[i]) > high) high = level(names[i])
-            return high
-        }
-        function level(name,    own) { # one more than what the crate depends on; -1 for a library of the toolchain
-            if (!(name in needs)) return -1
-            if (name in found) return found[name]
-            own = highest(needs[name]) + 1
-            lines[own] = lines[own] name (size[own]++ % 2 ? "\n" : " ")
-            return found[name] = own
+        function visit(name,    names, count, i) { # not a library of the toolchain, and none twice
+            if (!(name in needs) || name in seen) return
+            seen[name] = 1
+            count = split(needs[name], names, " ")
+            for (i = 1; i <= count; i++) visit(names[i])
+            print name
         }
         { sub(/#.*/, "") }
-        split($0, half, ":") == 2 { needs[half[1]] = half[2] }
+        split($0, half, ":") == 2 {
+            split(half[1], words, " ")
+            needs[words[1]] = half[2]
+        }
         END {
-            top = highest(wanted)
-            for (i = 0; i <= top; i++) printf "%s%s", lines[i], (size[i] % 2 ? "\n" : "")
+            number = split(wanted, asked, " ")
+            for (at = 1; at <= number; at++) visit(asked[at])
         }' crates.txt
 }
 
-# Proves one or two crates that need nothing of each other.
-prove_pair() {
-    local first=${seconds_of[$1]:-0} second=${seconds_of[${2:-$1}]:-0}
-    step $((first > second ? first : second)) "proving $1${2:+ and $2}" rt check "$@"
+# Runs a command in a crate's folder.
+in_crate() {
+    (cd "crates/$1" && "${@:2}")
 }
 
-# Proves the named crates and what they depend on, step by step. A program is built and run as well.
+# Proves a crate and builds it: a library for the crates above, NAME_c as target/staticlib/libNAME.a, a program as
+# target/bin/NAME. A program is run as well, on an empty input. What is for other machines is built for every x86-64.
+build_one() {
+    if [[ -e crates/$1/src/main.rt ]]; then
+        in_crate "$1" rt run --cpu=x86-64
+        install -D -m 755 "crates/$1/out/$1" "target/bin/$1"
+    elif grep -q "^$1 staticlib" crates.txt; then
+        in_crate "$1" rt lib --cpu=x86-64
+        install -D -m 644 "crates/$1/out/lib$1.a" "target/staticlib/lib${1%_c}.a"
+    else
+        in_crate "$1" rt lib
+    fi
+}
+
+# Proves and builds the named crates and what they depend on, step by step.
 prove() {
-    local pair
-    echo 'A crate that is proved already, and has not changed, takes no time.'
-    while read -r -a pair; do
-        prove_pair "${pair[@]}"
-    done < <(levels "$@")
-}
-
-# Builds the C library, proved.
-build_library() {
-    step 30 'building the C library' rt staticlib jugfjord
+    local name
+    echo 'A library that is proved already, and has not changed, takes no time.'
+    while read -r name; do
+        step "${seconds_of[$name]:-0}" "proving $name" build_one "$name"
+    done < <(order "$@")
 }
 
 # Runs cargo on rust/ with the C library that was built: no download, optimised.
