@@ -42,7 +42,7 @@ fn link(path: PathBuf) {
 
 fn stop(reason: &str) {
     eprintln!("{reason}.");
-    eprintln!("Set it to the path of the archive that `rt staticlib jugfjord` builds,");
+    eprintln!("Set it to the path of target/staticlib/libjugfjord.a, which ./install and ./test build,");
     eprintln!("or leave the library out with --no-default-features.");
     std::process::exit(1);
 }

@@ -39,16 +39,28 @@ fn standard_output_is_closed() {
     expect_unwritten(|| shell(r#"exec "$0" >&-"#));
 }
 
+/// An end that nobody reads. A socket's, since the reading end of a pipe may be held for a moment
+/// by a process that another test starts.
+fn unread() -> OwnedFd {
+    let (writer, reader) = UnixStream::pair().expect("there are sockets");
+    reader.shutdown(Shutdown::Both).expect("it can be shut");
+    writer.into()
+}
+
 #[test]
 fn nobody_reads_standard_output() {
     expect_unwritten(|| {
-        // A socket, since the reading end of a pipe may be held for a moment by a process that
-        // another test starts.
-        let (writer, reader) = UnixStream::pair().expect("there are sockets");
-        reader.shutdown(Shutdown::Both).expect("it can be shut");
-        // The signal would end the program before it can say anything.
         let mut command = shell(r#"trap "" PIPE; exec "$0""#);
-        command.stdout(OwnedFd::from(writer));
+        command.stdout(unread());
+        command
+    });
+}
+
+#[test]
+fn nobody_reads_standard_output_and_the_signal_comes() {
+    expect_unwritten(|| {
+        let mut command = command();
+        command.stdout(unread());
         command
     });
 }

@@ -23,7 +23,7 @@ pub struct Outcome {
 /// The full path of the built program. Without it a test fails with words on what to set.
 pub fn path() -> PathBuf {
     let asked = "Set it to the path of the built program `plan`, \
-                 which `rt check plan` writes to target/bin/plan.";
+                 target/bin/plan, which ./sample, ./install and ./test build.";
     let value = env::var_os(VARIABLE).unwrap_or_else(|| panic!("{VARIABLE} is not set. {asked}"));
     match PathBuf::from(&value).canonicalize() {
         Ok(path) if path.is_file() => path,
