@@ -260,8 +260,7 @@ class Names:
             if not is_old(w) or w[0].isupper():
                 return w
             if w not in self.defined:  # a name that port.py turned stands in running text as it was
-                new = EXCEPTIONS.get(w, snake(w))
-                return new if new in self.defined else w
+                return EXCEPTIONS.get(w, snake(w) if snake(w) in self.defined else w)
             if f is not None and (w in f.library or w in f.generated):
                 return w
             return self.new(f.path if f else self.root, w)
