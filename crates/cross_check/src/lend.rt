@@ -6,7 +6,8 @@ use crate::draw::draw;
 use crate::plain::memory::{minus, plus};
 use crate::plain::ranks::{Term, total};
 use crate::plain::{Call, Outcome, refused};
-use planner::Answer;
+use planner::PlanSums;
+use refusal::Refusal;
 
 // How many places of a table the case needs: copies, counts, left films.
 fn needed(c: Case, rack: &[u64], table: u32) -> usize {
@@ -43,20 +44,16 @@ pub(crate) fn call_of(c: Case, rack: &[u64]) -> Call {
 }
 
 // The proved planner's answer in 01's numbers.
-fn outcome_of(a: Answer) -> Outcome {
+fn outcome_of(a: Result<PlanSums, Refusal>) -> Outcome {
     match a {
-        Answer::Planned {
-            served,
-            unserved,
-            left,
-        } => Outcome {
+        Ok(sums) => Outcome {
             refusal: 0,
             second: 0,
-            served,
-            unserved,
-            left: left as u64,
+            served: sums.served,
+            unserved: sums.unserved,
+            left: sums.left as u64,
         },
-        Answer::Refused(r) => refused(refusal::number(r), refusal::second(r) as u64),
+        Err(r) => refused(refusal::number(r), refusal::second(r) as u64),
     }
 }
 

@@ -1,13 +1,13 @@
 // The faults of demand records, looked for record by record.
 ghost use Rattle.std.specs.Prelude.{◌≡◌, false, ◌/◌, ◌≤◌, length, replicate};
 ghost use Rattle.refusal.specs.Verdict.{given};
-ghost use Rattle.refusal.specs.Numbers.{judged};
+ghost use Rattle.refusal.specs.Numbers.{verdict_of};
 ghost use Rattle.placement.specs.Rack.{in_range, most_plan_film, most_records};
 ghost use Rattle.placement.specs.Records.{records_judged};
 
 use crate::number::number32;
 use placement::{MOST_DEMAND, MOST_FILM, MOST_PLAN_FILM};
-use refusal::{Judgement, Refusal};
+use refusal::Refusal;
 
 // Whether a number is a film's.
 fn film_in_range(film: u32) -> bool
@@ -20,10 +20,10 @@ fn film_in_range(film: u32) -> bool
 }
 
 // The first fault of the records, in one pass: `seen` has a place for each film, and the films of the records before are marked.
-pub(crate) fn judge_records(list: &[u8], seen: &mut [bool]) -> Judgement
+pub(crate) fn judge_records(list: &[u8], seen: &mut [bool]) -> Result<(), Refusal>
     requires list_len_bound { length list.now / 8 ≤ most_records }
     requires seen_value { seen.old ≡ replicate 65536 false }
-    ensures { judged result ≡ records_judged list.now (given tt) }
+    ensures { verdict_of result ≡ records_judged list.now (given tt) }
 {
     let count = list.len() / 8;
     let mut i = 0;
@@ -32,20 +32,20 @@ pub(crate) fn judge_records(list: &[u8], seen: &mut [bool]) -> Judgement
         let demand = number32(list, 8 * i + 4);
         let position = i as u32 + 1;
         if !film_in_range(film) {
-            return Judgement::Refused(Refusal::FilmOutOfRange(position));
+            return Err(Refusal::FilmOutOfRange(position));
         }
         if MOST_FILM < film {
-            return Judgement::Refused(Refusal::ServiceClip(position));
+            return Err(Refusal::ServiceClip(position));
         }
         if MOST_DEMAND < demand {
-            return Judgement::Refused(Refusal::DemandOutOfRange(position));
+            return Err(Refusal::DemandOutOfRange(position));
         }
         let place = film as usize;
         if seen[place] {
-            return Judgement::Refused(Refusal::FilmRepeated(position));
+            return Err(Refusal::FilmRepeated(position));
         }
         seen[place] = true;
         i += 1;
     }
-    Judgement::Passed
+    Ok(())
 }

@@ -1,5 +1,5 @@
 // Planning for C.
-ghost use Rattle.std.specs.Prelude.{◌≡◌};
+ghost use Rattle.std.specs.Prelude.{◌≡◌, Err};
 ghost use Rattle.placement.specs.Tables.{tables};
 ghost use Rattle.placement.specs.Planning.{call};
 ghost use Rattle.placement.specs.PlanPromise.{PlanPromise};
@@ -7,11 +7,10 @@ ghost use Rattle.disk_entries.specs.Entries.{disks_of_entries, held_disks};
 ghost use Rattle.plan_after.specs.AfterPromise.{PlanAfterPromise};
 ghost use Rattle.plan_terminal.specs.TerminalPromise.{TerminalPromise};
 ghost use Rattle.planner.specs.Answers.{plan_numbers};
-ghost use Rattle.planner.specs.declared.answer.Answer.TheVariants.{Refused};
 ghost use Rattle.jugfjord.specs.Numbers.{planned_fields};
 
 use disk_entries::{DiskEntry, PackedDisks, held_count, pack};
-use planner::Answer;
+use planner::PlanSums;
 use refusal::Refusal;
 
 // `struct jugfjord_planned` of the header.
@@ -27,7 +26,7 @@ pub struct Planned {
 
 // The numbers of a refusal.
 fn declined(refusal: Refusal) -> Planned
-    ensures { planned_fields result ≡ plan_numbers (Refused refusal) }
+    ensures { planned_fields result ≡ plan_numbers (Err refusal) }
 {
     let number = refusal::number(refusal);
     let second = refusal::second(refusal);
@@ -41,22 +40,18 @@ fn declined(refusal: Refusal) -> Planned
 }
 
 // The numbers of planning's answer.
-fn planned_numbers(answer: Answer) -> Planned
+fn planned_numbers(answer: Result<PlanSums, Refusal>) -> Planned
     ensures { planned_fields result ≡ plan_numbers answer }
 {
     match answer {
-        Answer::Planned {
-            served,
-            unserved,
-            left,
-        } => Planned {
+        Ok(sums) => Planned {
             number: 0,
             second: 0,
-            served,
-            unserved,
-            left,
+            served: sums.served,
+            unserved: sums.unserved,
+            left: sums.left,
         },
-        Answer::Refused(refusal) => declined(refusal),
+        Err(refusal) => declined(refusal),
     }
 }
 

@@ -1,15 +1,14 @@
 // Reading for C.
-ghost use Rattle.std.specs.Prelude.{◌≡◌, min};
+ghost use Rattle.std.specs.Prelude.{◌≡◌, min, Err};
 ghost use Rattle.placement.specs.Tables.{tables};
 ghost use Rattle.disk_entries.specs.Entries.{disks_of_entries, held_disks};
 ghost use Rattle.reader.specs.Answers.{numbers_of};
 ghost use Rattle.reader.specs.Promise.{ReadPromise, JudgePromise};
-ghost use Rattle.reader.specs.declared.answer.ReadAnswer.TheVariants.{Refused};
 ghost use Rattle.jugfjord.specs.Numbers.{read_fields};
 ghost use Rattle.jugfjord.specs.ReadInto.{ReadInto};
 
 use disk_entries::{DiskEntry, MOST_PACKED, PackedDisks, unpack};
-use reader::ReadAnswer;
+use reader::PlanRead;
 use refusal::Refusal;
 
 // `struct jugfjord_read_plan` of the header.
@@ -26,7 +25,7 @@ pub struct ReadPlan {
 
 // The numbers of a refusal.
 fn declined(refusal: Refusal) -> ReadPlan
-    ensures { read_fields result ≡ numbers_of (Refused refusal) }
+    ensures { read_fields result ≡ numbers_of (Err refusal) }
 {
     let number = refusal::number(refusal);
     let second = refusal::second(refusal);
@@ -41,11 +40,11 @@ fn declined(refusal: Refusal) -> ReadPlan
 }
 
 // The numbers of reading's answer.
-fn read_numbers(answer: ReadAnswer) -> ReadPlan
+fn read_numbers(answer: Result<PlanRead, Refusal>) -> ReadPlan
     ensures { read_fields result ≡ numbers_of answer }
 {
     match answer {
-        ReadAnswer::Plan(plan) => ReadPlan {
+        Ok(plan) => ReadPlan {
             number: 0,
             second: 0,
             disks: plan.disks,
@@ -53,7 +52,7 @@ fn read_numbers(answer: ReadAnswer) -> ReadPlan
             served: plan.served,
             unserved: plan.unserved,
         },
-        ReadAnswer::Refused(refusal) => declined(refusal),
+        Err(refusal) => declined(refusal),
     }
 }
 

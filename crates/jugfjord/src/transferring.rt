@@ -1,12 +1,11 @@
 // Transfers for C.
-ghost use Rattle.std.specs.Prelude.{◌≡◌};
+ghost use Rattle.std.specs.Prelude.{◌≡◌, Err};
 ghost use Rattle.transfer_schedule.specs.TransfersPromise.{CountedPromise};
 ghost use Rattle.transfers.specs.Answers.{transfer_numbers};
-ghost use Rattle.transfers.specs.declared.answer.TransfersAnswer.TheVariants.{Refused};
 ghost use Rattle.jugfjord.specs.Numbers.{transferred_fields};
 
 use refusal::Refusal;
-use transfers::TransfersAnswer;
+use transfers::InRounds;
 
 // `struct jugfjord_transferred` of the header.
 #[repr(C)]
@@ -20,7 +19,7 @@ pub struct Transferred {
 
 // The numbers of a refusal.
 fn declined(refusal: Refusal) -> Transferred
-    ensures { transferred_fields result ≡ transfer_numbers (Refused refusal) }
+    ensures { transferred_fields result ≡ transfer_numbers (Err refusal) }
 {
     let number = refusal::number(refusal);
     let second = refusal::second(refusal);
@@ -33,17 +32,17 @@ fn declined(refusal: Refusal) -> Transferred
 }
 
 // The numbers of the answer of transfers.
-fn transferred_numbers(answer: TransfersAnswer) -> Transferred
+fn transferred_numbers(answer: Result<InRounds, Refusal>) -> Transferred
     ensures { transferred_fields result ≡ transfer_numbers answer }
 {
     match answer {
-        TransfersAnswer::InRounds { transfers, rounds } => Transferred {
+        Ok(made) => Transferred {
             number: 0,
             second: 0,
-            transfers,
-            rounds,
+            transfers: made.transfers,
+            rounds: made.rounds,
         },
-        TransfersAnswer::Refused(refusal) => declined(refusal),
+        Err(refusal) => declined(refusal),
     }
 }
 

@@ -1,16 +1,14 @@
 // Writing for C.
-ghost use Rattle.std.specs.Prelude.{◌≡◌};
+ghost use Rattle.std.specs.Prelude.{◌≡◌, Err};
 ghost use Rattle.placement.specs.Tables.{tables};
 ghost use Rattle.plan_text.specs.WriteCall.{write_call};
 ghost use Rattle.disk_entries.specs.Entries.{disks_of_entries, held_disks};
 ghost use Rattle.writer.specs.Answers.{written_numbers};
 ghost use Rattle.writer.specs.WritePromise.{WritePromise};
-ghost use Rattle.writer.specs.declared.answer.Written.TheVariants.{Refused};
 ghost use Rattle.jugfjord.specs.Numbers.{written_fields};
 
 use disk_entries::{DiskEntry, PackedDisks, held_count, pack};
 use refusal::Refusal;
-use writer::Written;
 
 // `struct jugfjord_written` of the header.
 #[repr(C)]
@@ -23,7 +21,7 @@ pub struct WrittenNumbers {
 
 // The numbers of a refusal.
 fn declined(refusal: Refusal) -> WrittenNumbers
-    ensures { written_fields result ≡ written_numbers (Refused refusal) }
+    ensures { written_fields result ≡ written_numbers (Err refusal) }
 {
     let number = refusal::number(refusal);
     let second = refusal::second(refusal);
@@ -35,16 +33,16 @@ fn declined(refusal: Refusal) -> WrittenNumbers
 }
 
 // The numbers of writing's answer.
-fn written_numbers(answer: Written) -> WrittenNumbers
+fn written_numbers(answer: Result<u64, Refusal>) -> WrittenNumbers
     ensures { written_fields result ≡ written_numbers answer }
 {
     match answer {
-        Written::Length(length) => WrittenNumbers {
+        Ok(length) => WrittenNumbers {
             number: 0,
             second: 0,
             length,
         },
-        Written::Refused(refusal) => declined(refusal),
+        Err(refusal) => declined(refusal),
     }
 }
 

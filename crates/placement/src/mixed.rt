@@ -1,7 +1,7 @@
 // A rack of large and small disks, one number each: its refusals, its slots, and the room that its plans need.
 ghost use Rattle.std.specs.Prelude.{◌≡◌, true, ◌*◌, ◌≤◌, min, leb, length};
 ghost use Rattle.refusal.specs.Verdict.{given};
-ghost use Rattle.refusal.specs.Numbers.{judged};
+ghost use Rattle.refusal.specs.Numbers.{verdict_of};
 ghost use Rattle.placement.specs.Rack.{most_disks, most_slots, disk_in_range, all_in_range, disks_in_range, same_ratio, all_slots, first_slots, first_load};
 ghost use Rattle.placement.specs.Packed.{disk_in, disks_in};
 ghost use Rattle.placement.specs.Tables.{room_in};
@@ -10,7 +10,7 @@ ghost use Rattle.placement.specs.Planning.{ratio_judged_from, rack_judged};
 use crate::packed::{disk_slots, disk_streams};
 use crate::rack::in_range;
 use crate::{MOST_DISKS, MOST_SLOTS, MOST_STREAMS};
-use refusal::{Judgement, Refusal};
+use refusal::Refusal;
 
 // Whether a disk's slots and streams are in their ranges.
 fn in_ranges(disk: u64) -> bool
@@ -58,9 +58,9 @@ fn same_ratio(slots: u64, streams: u64, disk: u64) -> bool
 }
 
 // The first disk of another ratio than disk 1: the disks from one on give the verdict on all.
-fn judge_ratios(rack: &[u64]) -> Judgement
+fn judge_ratios(rack: &[u64]) -> Result<(), Refusal>
     requires { disks_in_range (disks_in rack.now) ≡ true }
-    ensures { judged result
+    ensures { verdict_of result
         ≡ ratio_judged_from (first_slots (disks_in rack.now)) (first_load (disks_in rack.now)) 1 (disks_in rack.now) (given tt) }
 {
     let slots = disk_slots(rack[0]).0 as u64;
@@ -68,19 +68,19 @@ fn judge_ratios(rack: &[u64]) -> Judgement
     let mut d = 0;
     while d < rack.len() {
         if !same_ratio(slots, streams, rack[d]) {
-            return Judgement::Refused(Refusal::RatioDiffers(d as u32 + 1));
+            return Err(Refusal::RatioDiffers(d as u32 + 1));
         }
         d += 1;
     }
-    Judgement::Passed
+    Ok(())
 }
 
 // The refusals of a rack: 12, then 13 with the disk.
-pub fn judge_rack(rack: &[u64]) -> Judgement
-    ensures { judged result ≡ rack_judged (disks_in rack.now) (given tt) }
+pub fn judge_rack(rack: &[u64]) -> Result<(), Refusal>
+    ensures { verdict_of result ≡ rack_judged (disks_in rack.now) (given tt) }
 {
     if !disks_in_range(rack) {
-        return Judgement::Refused(Refusal::DisksOutOfRange);
+        return Err(Refusal::DisksOutOfRange);
     }
     judge_ratios(rack)
 }

@@ -3,7 +3,7 @@
 
 mod mark; // mark.rt: marks in the copy table
 
-ghost use Rattle.std.specs.Prelude.{◌≡◌, length};
+ghost use Rattle.std.specs.Prelude.{◌≡◌, length, OnErr};
 ghost use Rattle.placement.specs.Rack.{most_disks};
 ghost use Rattle.placement.specs.Packed.{disks_in};
 ghost use Rattle.placement.specs.Tables.{tables, own_tables};
@@ -13,9 +13,8 @@ ghost use Rattle.plan_after.specs.AfterPromise.{PlanAfterPromise};
 ghost use Rattle.plan_after.specs.Held.{HeldBefore, MarkedPlan};
 
 use mark::mark_disks;
-use planner::{Answer, plan, plan_behind};
-use reader::ReadAnswer;
-use refusal::Judgement;
+use planner::{PlanSums, plan, plan_behind};
+use refusal::Refusal;
 
 // The plan of a call, marked by what the disks of an earlier plan held. A refusal is planning's own, and marks nothing.
 fn plan_marked(
@@ -27,24 +26,18 @@ fn plan_marked(
     heldrack: &[u64],
     heldcopies: &[u64],
     heldcounts: &[u32],
-) -> Answer
+) -> Result<PlanSums, Refusal>
     requires { HeldBefore (disks_in heldrack.now) heldcopies.now heldcounts.now }
-    ensures { MarkedPlan (call (disks_in rack.now) list.now)
+    ensures promise { MarkedPlan (call (disks_in rack.now) list.now)
         (disks_in heldrack.now) heldcopies.now heldcounts.now
         (tables copies.old counts.old left.old)
         (tables copies.new counts.new left.new) (plan_numbers result) }
+    ensures unchanged { OnErr result
+        (tables copies.new counts.new left.new ≡ tables copies.old counts.old left.old) }
 {
-    let answer = plan(rack, list, copies, counts, left);
-    let Answer::Planned {
-        served: _,
-        unserved: _,
-        left: _,
-    } = answer
-    else {
-        return answer;
-    };
+    let sums = plan(rack, list, copies, counts, left)?;
     mark_disks(rack, copies, heldrack, heldcopies, heldcounts);
-    answer
+    Ok(sums)
 }
 
 // The same after an earlier text, which is read into 64 packed disks and tables of zeros. Its refusal stands behind planning's.
@@ -59,25 +52,20 @@ fn plan_with(
     heldcopies: &mut [u64],
     heldcounts: &mut [u32],
     heldleft: &mut [u64],
-) -> Answer
+) -> Result<PlanSums, Refusal>
     requires { (length heldrack.old ≡ most_disks) × (tables heldcopies.old heldcounts.old heldleft.old ≡ own_tables) }
-    ensures { PlanAfterPromise
+    ensures promise { PlanAfterPromise
         (call (disks_in rack.now) list.now) earlier.now
         (tables copies.old counts.old left.old)
         (tables copies.new counts.new left.new)
         (plan_numbers result) }
+    ensures unchanged { OnErr result
+        (tables copies.new counts.new left.new ≡ tables copies.old counts.old left.old) }
 {
     let read = reader::read(earlier, heldrack, heldcopies, heldcounts, heldleft);
     match read {
-        ReadAnswer::Refused(refusal) => plan_behind(
-            rack,
-            list,
-            copies,
-            counts,
-            left,
-            Judgement::Refused(refusal),
-        ),
-        ReadAnswer::Plan(held) => plan_marked(
+        Err(refusal) => plan_behind(rack, list, copies, counts, left, Err(refusal)),
+        Ok(held) => plan_marked(
             rack,
             list,
             copies,
@@ -99,12 +87,14 @@ pub fn plan_after(
     copies: &mut [u64],
     counts: &mut [u32],
     left: &mut [u64],
-) -> Answer
-    ensures { PlanAfterPromise
+) -> Result<PlanSums, Refusal>
+    ensures promise { PlanAfterPromise
         (call (disks_in rack.now) list.now) earlier.now
         (tables copies.old counts.old left.old)
         (tables copies.new counts.new left.new)
         (plan_numbers result) }
+    ensures unchanged { OnErr result
+        (tables copies.new counts.new left.new ≡ tables copies.old counts.old left.old) }
 {
     let mut heldrack = [0u64; 64];
     let mut heldcopies = [0u64; 2048];

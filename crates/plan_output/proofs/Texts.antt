@@ -20,8 +20,9 @@ use Rattle.placement.proofs.Calls.{call_well_formed}
 use Rattle.plan_text.specs.Text.{text_of}
 use Rattle.plan_text.specs.WriteCall.{WriteCall, write_call, room_stated, well_formed_call}
 use Rattle.plan_text.proofs.Planned.{planned_room, planned_held, planned_well_formed}
-use Rattle.planner.specs.declared.answer.Answer.{Answer}
-use Rattle.planner.specs.declared.answer.Answer.TheVariants.{Planned}
+use Rattle.std.specs.Prelude.{Result, Ok}
+use Rattle.refusal.specs.declared.Refusal.{Refusal}
+use Rattle.planner.specs.declared.answer.PlanSums.{PlanSums}
 use Rattle.planner.specs.Answers.{plan_numbers}
 use Rattle.writer.specs.WritePromise.{WritePromise, text_held}
 use Rattle.plan_output.specs.Output.{printed, printed_for}
@@ -70,9 +71,9 @@ module _ (c : Call) (formed : CallWellFormed c) where
 
 -- Where planning answers a plan, writing its tables shows what is printed for the call.
 pub planned_shown :
-    (c : Call) (a : Answer) {before after : Tables} {s u left : ℕ} {entry exit : List ℕ} {n : Numbers ℕ} {answer : ℕ}
-    → before ≡ own_tables → PlanPromise c before after (plan_numbers a) → a ≡ Planned s u left
-    → WritePromise (write_call c.rack after left) entry exit n → answer ≡ n.values → Shown (printed_for c) entry exit answer
+    (c : Call) (a : Result PlanSums Refusal) {before after : Tables} {s : PlanSums} {entry exit : List ℕ} {n : Numbers ℕ} {answer : ℕ}
+    → before ≡ own_tables → PlanPromise c before after (plan_numbers a) → a ≡ Ok s
+    → WritePromise (write_call c.rack after s.left) entry exit n → answer ≡ n.values → Shown (printed_for c) entry exit answer
 planned_shown c a {entry = entry} {exit = exit} {n = n} {answer = answer} own planned here promise counted =
     subst (λ (text : List ℕ). Shown text entry exit answer) (sym (ap (printed c) e))
     (subst (Shown (text_of (plan_in c)) entry exit) (sym counted)

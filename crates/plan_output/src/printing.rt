@@ -13,9 +13,8 @@ ghost use Rattle.writer.specs.Shown.{Shown};
 
 use demand_list::number32;
 use placement::{Rack, Slots, Streams, accepted, disk_of};
-use planner::Answer;
 use refusal::Refusal;
-use writer::{Written, write_refusal};
+use writer::write_refusal;
 
 // N, k and L take this many bytes.
 const HEAD: usize = 12;
@@ -30,13 +29,10 @@ fn refuse(refusal: Refusal, text: &mut [u8]) -> usize
 }
 
 // The length of the text that was written, 0 where none was.
-fn length_of(written: Written) -> usize
+fn length_of(written: Result<u64, Refusal>) -> usize
     ensures { result ≡ (written_numbers written).values }
 {
-    match written {
-        Written::Length(length) => length as usize,
-        Written::Refused(_) => 0,
-    }
+    written.unwrap_or(0) as usize
 }
 
 // Plans into tables that are all zero, and writes the text of the plan or the line of the refusal.
@@ -52,12 +48,8 @@ fn print_with(
     ensures { Shown (printed_for (call (disks_in rack.now) list.now)) text.old text.new result }
 {
     match planner::plan(rack, list, copies, counts, left) {
-        Answer::Planned {
-            served: _,
-            unserved: _,
-            left: films,
-        } => length_of(writer::write(rack, copies, counts, left, films, text)),
-        Answer::Refused(refusal) => refuse(refusal, text),
+        Ok(sums) => length_of(writer::write(rack, copies, counts, left, sums.left, text)),
+        Err(refusal) => refuse(refusal, text),
     }
 }
 

@@ -1,22 +1,23 @@
 -- The promise of planning on the purser's terminal follows from its definition.
 use mathlib.Core.Path.{◌≡◌, refl, sym, ap, ap₂, subst, ◌∙◌}
-use mathlib.Core.Bool.{true, false}
+use mathlib.Core.Bool.{true, false, cond}
+use Rattle.std.specs.Prelude.{Err}
 use Prim.Native.Nat.{ℕ, ◌≤◌}
 use native.Mathlib.Omega.{arith}
 use Rattle.refusal.specs.Verdict.{Verdict, given, refused, Numbers}
 use Rattle.refusal.specs.Numbers.{refusal_of}
 use Rattle.refusal.specs.declared.Refusal.{Refusal}
 use Rattle.refusal.proofs.Verdicts.{Numbered}
+use Rattle.refusal.proofs.Refusals.{number_some}
 use Rattle.placement.specs.Records.{shape_judged}
 use Rattle.placement.specs.Tables.{Tables}
 use Rattle.placement.specs.Planning.{Call, PlanSums, rack_judged, verdict, plan_in, planning, tables_after, answer_for, tables_for, holding_call}
 use Rattle.placement.specs.PlanPromise.{PlanPromise}
-use Rattle.placement.proofs.Conjunctions.{false_true}
+use Rattle.placement.proofs.Conjunctions.{false_true, cond_true, cond_false}
 use Rattle.placement.proofs.Tests.{by_test}
 use Rattle.placement.proofs.PlanPromise.{plan_promise}
 use Rattle.plan_text.specs.Text.{lines_of, text_of}
 use Rattle.plan_text.specs.WriteCall.{WriteCall, write_call, plan_of}
-use Rattle.planner.specs.declared.answer.Answer.TheVariants.{Refused}
 use Rattle.planner.specs.Answers.{plan_numbers}
 use Rattle.plan_terminal.specs.Terminal.{fits_terminal, terminal_verdict, terminal_planning, terminal_tables_after}
 use Rattle.plan_terminal.specs.TerminalPromise.{Writes, TerminalPromise}
@@ -111,11 +112,20 @@ module _ (c : Call) (t : Tables) where
         terminal_promise (promise.numbers ∙ sym (ap (answer_for c) (fits_verdict c t fits)))
         (promise.tables ∙ sym (ap (tables_for c t) (fits_verdict c t fits)))
 
-  -- and the refusal of any other call.
-  pub large_promise :
-      (r : Refusal) → fits_terminal c ≡ false → refusal_of {A = Unit {0}} r ≡ rack_judged c.rack (shape_judged c.list (refused 17 0))
-      → TerminalPromise c t t (plan_numbers (Refused r))
+  -- What the tables do not hold is refused: for the rack, the shape of the list, or 17.
+  abbrev too_large : Verdict (Unit {0})
+  too_large = rack_judged c.rack (shape_judged c.list (refused 17 0))
+
+  -- Where the size is not refused the call fits,
+  pub size_passes : given tt ≡ cond (fits_terminal c) (given tt) too_large → fits_terminal c ≡ true
+  size_passes e = by_test (fits_terminal c) (λ fits. fits) (λ large. given_fits c t (large_verdict c t large ∙ sym (e ∙ cond_false _ _ _ large)))
+
+  -- and the refusal of the size keeps the terminal's promise.
+  pub large_promise : (r : Refusal) → refusal_of r ≡ cond (fits_terminal c) (given tt) too_large → TerminalPromise c t t (plan_numbers (Err r))
   unfolding terminal_planning terminal_tables_after
-  large_promise r large e =
-      let same : refusal_of r ≡ terminal_verdict c t = e ∙ sym (large_verdict c t large) in
-      terminal_promise (ap (answer_for c) same) (ap (tables_for c t) same)
+  large_promise r e =
+      by_test (fits_terminal c)
+      (λ fits. absurd (omega (arith, number_some r, ap (λ (v : Verdict (Unit {0})). (answer_for c v).refusal) (e ∙ cond_true _ _ _ fits))))
+      (λ large.
+      let same : refusal_of r ≡ terminal_verdict c t = e ∙ cond_false _ _ _ large ∙ sym (large_verdict c t large) in
+      terminal_promise (ap (answer_for c) same) (ap (tables_for c t) same))

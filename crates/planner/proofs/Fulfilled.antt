@@ -15,7 +15,7 @@ use Rattle.placement.specs.Method.{served, unserved}
 use Rattle.placement.specs.FillingOrder.{filling}
 use Rattle.placement.specs.Shelf.{shelf_films}
 use Rattle.placement.specs.Tables.{Tables, tables, entry_of, padded, written, places}
-use Rattle.placement.specs.Planning.{Call, PlanSums, sums, records_in, placed_in, layout_in, left_in, verdict, answer_for, holding_call}
+use Rattle.placement.specs.Planning.{Call, sums, sums_in, records_in, placed_in, layout_in, left_in, verdict, holding_call}
 use Rattle.placement.specs.Promise.{Distinct}
 use Rattle.placement.specs.WellFormed.{CallWellFormed}
 use Rattle.placement.proofs.Conjunctions.{both_true}
@@ -29,8 +29,6 @@ use Rattle.placement.proofs.ShelfSharing.{shelved_served}
 use Rattle.placement.proofs.ShelfPlan.{left_distinct, left_total}
 use Rattle.placement.proofs.MarkedCopies.{marked_none}
 use Rattle.placement.proofs.Calls.{call_judged, call_well_formed}
-use Rattle.planner.specs.declared.answer.Answer.TheVariants.{Planned}
-use Rattle.planner.specs.Answers.{plan_numbers}
 use Rattle.planner.specs.Plannable.{Plannable}
 
 -- A call that is not refused can be planned.
@@ -96,12 +94,10 @@ module _ (c : Call) (formed : CallWellFormed c) where
 
     -- The steps' numbers are the numbers of the plan.
     pub steps_numbers :
-        {s u n : ℕ} → s ≡ served (placed_in c) → u ≡ total last → n ≡ length last
-        → plan_numbers (Planned s u n) ≡ answer_for c (given tt)
+        {s u n : ℕ} → s ≡ served (placed_in c) → u ≡ total last → n ≡ length last → sums s u n ≡ sums_in c
     steps_numbers {s} {u} {n} serves lacks count =
-        ap (λ (v : PlanSums). answered (sums 0 0 0) (λ (w : PlanSums). w) (given v))
-        (ap₂ (λ (a b : ℕ). sums a b n)
+        ap₂ (λ (a b : ℕ). sums a b n)
         (serves ∙ sym (shelved_served c.rack (shelf_films (records_in c)) (placed_in c) (shelf_unwanted (records_in c))))
         (lacks ∙ ap total left_are ∙ left_total c.rack (records_in c) usable formed.accepted)
         ∙ ap (λ (m : ℕ). sums (served (layout_in c)) (unserved (filling c.rack) (list_of (records_in c))) m)
-        (count ∙ ap length left_are ∙ sym (by_film_length (left_in c))))
+        (count ∙ ap length left_are ∙ sym (by_film_length (left_in c)))

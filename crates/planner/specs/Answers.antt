@@ -1,15 +1,15 @@
 -- The numbers of planning's answer.
-use Rattle.refusal.specs.Verdict.{Verdict, given, Numbers, answered}
-use Rattle.refusal.specs.Numbers.{refusal_of}
+use Rattle.std.specs.Prelude.{Result}
+use Rattle.refusal.specs.Verdict.{Numbers, answered}
+use Rattle.refusal.specs.Numbers.{verdict_of}
+use Rattle.refusal.specs.declared.Refusal.{Refusal}
 use Rattle.placement.specs.Planning.{PlanSums, sums}
-use Rattle.planner.specs.declared.answer.Answer.{Answer}
-use Rattle.planner.specs.declared.answer.Answer.TheVariants.{Planned, Refused}
+use Rattle.planner.specs.declared.answer.PlanSums.{PlanSums as Answered}
 
--- What the answer says of the call: the numbers of a plan, or a refusal.
-abbrev pub answer_verdict : Answer → Verdict PlanSums
-answer_verdict (Planned s u left) = given (sums s u left)
-answer_verdict (Refused r) = refusal_of r
+-- The numbers of a plan.
+abbrev pub sums_of : Answered → PlanSums
+sums_of a = sums a.served a.unserved a.left
 
 -- The numbers of the answer.
-abbrev pub plan_numbers : Answer → Numbers PlanSums
-plan_numbers a = answered (sums 0 0 0) (λ values. values) (answer_verdict a)
+abbrev pub plan_numbers : Result Answered Refusal → Numbers PlanSums
+plan_numbers r = answered (sums 0 0 0) sums_of (verdict_of r)

@@ -1,13 +1,9 @@
-// What planning answers.
-use refusal::Refusal;
+// What planning answers where it is not refused.
 
-// A plan's S, U and number of left films, or a refusal. specs/Answers.antt gives the numbers for each case.
-#[derive(Clone, Copy)]
-pub enum Answer {
-    Planned {
-        served: u64,
-        unserved: u64,
-        left: u32,
-    },
-    Refused(Refusal),
+// A plan's S, U and number of left films. specs/Answers.antt gives the numbers of an answer.
+#[derive(Clone, Copy, Debug, PartialEq, Eq)]
+pub struct PlanSums {
+    pub served: u64,
+    pub unserved: u64,
+    pub left: u32,
 }

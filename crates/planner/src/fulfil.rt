@@ -1,14 +1,13 @@
 // The plan of a call that is not refused: the list, the disks in order, the shelf copies, and what is left.
 ghost use Rattle.std.specs.Prelude.{◌≡◌, ◌≤◌, length};
-ghost use Rattle.refusal.specs.Verdict.{given};
 ghost use Rattle.placement.specs.Rack.{most_records};
 ghost use Rattle.placement.specs.Packed.{disks_in};
 ghost use Rattle.placement.specs.Tables.{tables};
-ghost use Rattle.placement.specs.Planning.{call, answer_for, holding_call};
-ghost use Rattle.planner.specs.Answers.{plan_numbers};
+ghost use Rattle.placement.specs.Planning.{call, sums_in, holding_call};
+ghost use Rattle.planner.specs.Answers.{sums_of};
 ghost use Rattle.planner.specs.Plannable.{Plannable};
 
-use crate::answer::Answer;
+use crate::answer::PlanSums;
 use crate::build::build;
 use crate::fill::fill_all;
 use crate::left::store_left;
@@ -23,10 +22,10 @@ fn fill_with(
     counts: &mut [u32],
     left: &mut [u64],
     keys: &mut [u64],
-) -> Answer
+) -> PlanSums
     requires plannable { Plannable (call (disks_in rack.now) list.now) (tables copies.old counts.old left.old) }
     requires most_records_in_bounds { most_records ≤ length keys.old }
-    ensures result_value { plan_numbers result ≡ answer_for (call (disks_in rack.now) list.now) (given tt) }
+    ensures result_value { sums_of result ≡ sums_in (call (disks_in rack.now) list.now) }
     ensures left_after { tables copies.new counts.new left.new
         ≡ holding_call (call (disks_in rack.now) list.now) (tables copies.old counts.old left.old) }
 {
@@ -36,7 +35,7 @@ fn fill_with(
     let placed = shelve_all(copies, counts, keys, films, rack);
     let rest = films - placed + filled.left;
     let unserved = store_left(left, &keys[placed..], rest, records);
-    Answer::Planned {
+    PlanSums {
         served: filled.served,
         unserved,
         left: rest as u32,
@@ -50,9 +49,9 @@ pub(crate) fn fill_tables(
     copies: &mut [u64],
     counts: &mut [u32],
     left: &mut [u64],
-) -> Answer
+) -> PlanSums
     requires { Plannable (call (disks_in rack.now) list.now) (tables copies.old counts.old left.old) }
-    ensures result_value { plan_numbers result ≡ answer_for (call (disks_in rack.now) list.now) (given tt) }
+    ensures result_value { sums_of result ≡ sums_in (call (disks_in rack.now) list.now) }
     ensures left_after { tables copies.new counts.new left.new
         ≡ holding_call (call (disks_in rack.now) list.now) (tables copies.old counts.old left.old) }
 {

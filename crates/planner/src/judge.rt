@@ -5,7 +5,7 @@ ghost use Rattle.planner.specs.Verdicts.{Judges};
 
 use demand_list::{judge_list, judge_shape};
 use placement::{judge_rack, room};
-use refusal::{Judgement, Refusal};
+use refusal::Refusal;
 
 // The first refusal of planning that applies, for tables of these lengths.
 pub(crate) fn judge(
@@ -14,19 +14,13 @@ pub(crate) fn judge(
     copies: usize,
     counts: usize,
     left: usize,
-) -> Judgement
+) -> Result<(), Refusal>
     ensures { Judges (call (disks_in rack.now) list.now) copies counts left result }
 {
-    let disks = judge_rack(rack);
-    let Judgement::Passed = disks else {
-        return disks;
-    };
-    let shape = judge_shape(list);
-    let Judgement::Passed = shape else {
-        return shape;
-    };
+    judge_rack(rack)?;
+    judge_shape(list)?;
     if !room(rack, list.len() / 8, copies, counts, left) {
-        return Judgement::Refused(Refusal::TablesTooShort);
+        return Err(Refusal::TablesTooShort);
     }
     judge_list(list)
 }

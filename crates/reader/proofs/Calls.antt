@@ -24,7 +24,7 @@ use Rattle.placement.proofs.OwnTables.{own_room}
 use Rattle.plan_text.specs.ReadCall.{Told, answer_to, text_verdict, with_tables}
 use Rattle.plan_text.proofs.Verdicts.{verdict_well_formed}
 use Rattle.reader.specs.declared.answer.PlanRead.{PlanRead}
-use Rattle.reader.specs.declared.answer.ReadAnswer.TheVariants as answers
+use Rattle.std.specs.Prelude.{Result, Ok, Err}
 use Rattle.reader.specs.Answers.{numbers_of}
 use Rattle.reader.specs.Pass.{Judged}
 use Rattle.reader.specs.Stored.{front_copied, fronts_copied}
@@ -38,14 +38,14 @@ use Rattle.reader.proofs.Promises.{read_given, read_short, read_declined}
 -- A text that is refused changes nothing.
 pub call_refused :
     (text : List ℕ) (lent : List Disk) (entry : Tables) (disks : List Disk) (work work' : Tables) (r : Refusal)
-    → Judged (text_verdict text) disks work work' (answers.Refused r) → ReadPromise text lent entry lent entry (numbers_of (answers.Refused r))
+    → Judged (text_verdict text) disks work work' (Err r) → ReadPromise text lent entry lent entry (numbers_of (Err r))
 call_refused text lent entry disks work work' r judged = go (text_verdict text) refl
   where
-    go : (v : Verdict Plan) → text_verdict text ≡ v → ReadPromise text lent entry lent entry (numbers_of (answers.Refused r))
+    go : (v : Verdict Plan) → text_verdict text ≡ v → ReadPromise text lent entry lent entry (numbers_of (Err r))
     go (given p) e =
         let z : number_of r ≡ 0 = ap (λ (n : Numbers Told). n.refusal) (judged.numbers ∙ ap answer_to e) in
         absurd (omega (arith, number_some r))
-    go (refused n s) e = read_declined text n s e (numbers_of (answers.Refused r)) (judged.numbers ∙ ap answer_to e) lent entry
+    go (refused n s) e = read_declined text n s e (numbers_of (Err r)) (judged.numbers ∙ ap answer_to e) lent entry
 
 -- Two tests of one refusal, of which one fails.
 both_unless : {A : Type 0} (a b : Bool) (following : Verdict A) → (a && b) ≡ false → unless a 7 0 (unless b 7 0 following) ≡ refused 7 0
@@ -54,7 +54,7 @@ both_unless false b following e = refl
 
 -- A text with a plan, whose disks were packed to work with.
 module _ (text lent : List ℕ) (entry : Tables) (packed : List ℕ) (work work' : Tables) (r : PlanRead)
-    (judged : Judged (text_verdict text) (disks_in packed) work work' (answers.Plan r)) where
+    (judged : Judged (text_verdict text) (disks_in packed) work work' (Ok r)) where
   found : (p : Plan) × (text_verdict text ≡ given p)
   found = found_plan (text_verdict text) (text_numbered text) (sym (ap (λ (n : Numbers Told). n.refusal) judged.numbers))
 
@@ -64,7 +64,7 @@ module _ (text lent : List ℕ) (entry : Tables) (packed : List ℕ) (work work'
   formed : well_formed p ≡ true
   formed = verdict_well_formed text p found.1
 
-  numbers : numbers_of (answers.Plan r) ≡ answer_to (given p)
+  numbers : numbers_of (Ok r) ≡ answer_to (given p)
   numbers = judged.numbers ∙ ap answer_to found.1
 
   -- The rack and the number of left films are the plan's.
@@ -93,11 +93,11 @@ module _ (text lent : List ℕ) (entry : Tables) (packed : List ℕ) (work work'
   work_slots = omega (arith, ap all_slots rack_same, accepted_all_slots p.rack (plan_rack p formed))
 
   abbrev Short : Type 0
-  Short = ReadPromise text (disks_in lent) entry (disks_in lent) entry (numbers_of (answers.Refused TablesTooShort))
+  Short = ReadPromise text (disks_in lent) entry (disks_in lent) entry (numbers_of (Err TablesTooShort))
 
   short : with_tables (disks_in lent) entry (given p) ≡ refused 7 0 → Short
   short e =
-      read_short text p found.1 (numbers_of (answers.Plan r)) numbers (disks_in lent) entry (numbers_of (answers.Refused TablesTooShort))
+      read_short text p found.1 (numbers_of (Ok r)) numbers (disks_in lent) entry (numbers_of (Err TablesTooShort))
       e refl
 
   -- What is lent has room for it.
@@ -121,10 +121,10 @@ module _ (text lent : List ℕ) (entry : Tables) (packed : List ℕ) (work work'
   pub call_stored :
       (lent' : List ℕ) (exit : Tables) → enough ≡ true → lent' ≡ front_copied r.disks (take r.disks packed) lent
       → exit ≡ fronts_copied rack r.left work' entry
-      → ReadPromise text (disks_in lent) entry (disks_in lent') exit (numbers_of (answers.Plan r))
+      → ReadPromise text (disks_in lent) entry (disks_in lent') exit (numbers_of (Ok r))
   call_stored lent' exit e copied_rack stored =
       let both = both_true (leb (length (take r.disks packed)) (length lent)) (room_for rack r.left entry) e in
-      read_given text p found.1 (numbers_of (answers.Plan r)) numbers (disks_in lent) entry (disks_in lent') exit (sym fits_same ∙ both.0)
+      read_given text p found.1 (numbers_of (Ok r)) numbers (disks_in lent) entry (disks_in lent') exit (sym fits_same ∙ both.0)
       (sym (room_same entry) ∙ both.1)
       (ap disks_in copied_rack
       ∙ over_disks (take r.disks (take r.disks packed)) lent r.disks

@@ -17,7 +17,7 @@ use Rattle.plan_text.specs.Reading.{Reading, whole, refused_after, plan_read_wit
 use Rattle.plan_text.specs.Capped.{saturated, plan_read_capped}
 use Rattle.plan_text.specs.ReadCall.{lines_judged, answer_to, text_verdict, most_bytes}
 use Rattle.plan_text.proofs.Laws.{capped_read}
-use Rattle.reader.specs.declared.answer.ReadAnswer.TheVariants.{Refused}
+use Rattle.std.specs.Prelude.{Result, Ok, Err}
 use Rattle.reader.specs.Pass.{Judged}
 
 -- A plan is no refusal.
@@ -26,7 +26,7 @@ given_refused v d e = let z : ◌≡◌ {A = ℕ} 0 1 = cc in absurd (omega arit
 
 -- A refusal asks nothing of the disks and the tables.
 pub judged_refused :
-    (v : Verdict Plan) (disks : List Disk) (entry exit : Tables) (r : Refusal) → v ≡ refusal_of r → Judged v disks entry exit (Refused r)
+    (v : Verdict Plan) (disks : List Disk) (entry exit : Tables) (r : Refusal) → v ≡ refusal_of r → Judged v disks entry exit (Err r)
 judged_refused v disks entry exit r e = record {
   numbers = sym (ap answer_to e);
   rack = λ p f. given_refused v f e;
@@ -36,7 +36,7 @@ judged_refused v disks entry exit r e = record {
 -- A text that is refused after m lines is refused at line m + 1.
 pub refused_at_lem :
     (text : List ℕ) (disks : List Disk) (entry exit : Tables) (m n : ℕ) → plan_read text ≡ refused_after m → n ≡ suc m
-    → Judged (lines_judged (plan_read text)) disks entry exit (Refused (Line n))
+    → Judged (lines_judged (plan_read text)) disks entry exit (Err (Line n))
 refused_at_lem text disks entry exit m n e same =
     judged_refused (lines_judged (plan_read text)) disks entry exit (Line n) (ap lines_judged e ∙ ap (λ (k : ℕ). refused 9 k) (sym same))
 

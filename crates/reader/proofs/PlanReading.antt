@@ -27,8 +27,9 @@ use Rattle.plan_text.proofs.FirstLine.{first_line_lem}
 use Rattle.reader.specs.declared.first.FirstLine.{FirstLine}
 use Rattle.reader.specs.declared.disks.DiskLines.{DiskLines}
 use Rattle.reader.specs.declared.tail.TailLines.{TailLines}
-use Rattle.reader.specs.declared.answer.ReadAnswer.{ReadAnswer}
-use Rattle.reader.specs.declared.answer.ReadAnswer.TheVariants as answers
+use Rattle.refusal.specs.declared.Refusal.{Refusal}
+use Rattle.reader.specs.declared.answer.PlanRead.{PlanRead}
+use Rattle.std.specs.Prelude.{Result, Ok, Err}
 use Rattle.reader.specs.First.{FirstRead}
 use Rattle.reader.specs.Disks.{DisksFit, DisksRead, prefixed, disks_at}
 use Rattle.reader.specs.Tail.{TailRead, tail_at}
@@ -52,7 +53,7 @@ module _ (text packed : List ℕ) (first : FirstLine) (first_is : FirstRead text
   -- The first line is refused.
   pub plan_no_rack :
       (disks : List Disk) (entry exit : Tables) → first.after.fits ≡ false
-      → Judged (lines_judged (plan_read text)) disks entry exit (answers.Refused (Line 1))
+      → Judged (lines_judged (plan_read text)) disks entry exit (Err (Line 1))
   plan_no_rack disks entry exit e =
       refused_at_lem text disks entry exit 0 1
       (sym (capped text) ∙ ap rest (sym first_is.reads ∙ stopped text first.after (λ u t. parsed rack t) e)) refl
@@ -72,7 +73,7 @@ module _ (text packed : List ℕ) (first : FirstLine) (first_is : FirstRead text
       -- A disk line is refused.
       pub plan_no_disk :
           (after : List Disk) (entry exit : Tables) → found.after.fits ≡ false
-          → Judged (lines_judged (plan_read text)) after entry exit (answers.Refused (Line (found.lines + 2)))
+          → Judged (lines_judged (plan_read text)) after entry exit (Err (Line (found.lines + 2)))
       plan_no_disk after entry exit e =
           refused_at_lem text after entry exit (suc found.lines) (found.lines + 2)
           (rack_read_lem ∙ ap (joined (with_rack rack)) (disks.stopped e)) (omega arith)
@@ -96,7 +97,7 @@ module _ (text packed : List ℕ) (first : FirstLine) (first_is : FirstRead text
         -- A line behind the disks is refused.
         pub plan_no_tail :
             (after : List Disk) (entry exit : Tables) → tail.fits ≡ false
-            → Judged (lines_judged (plan_read text)) after entry exit (answers.Refused (Line (first.disks + tail.lines + 2)))
+            → Judged (lines_judged (plan_read text)) after entry exit (Err (Line (first.disks + tail.lines + 2)))
         plan_no_tail after entry exit e =
             refused_at_lem text after entry exit (suc (length found_copies + tail.lines)) (first.disks + tail.lines + 2)
             (disks_read ∙ ap behind (tail_read.stopped e))
@@ -110,8 +111,8 @@ module _ (text packed : List ℕ) (first : FirstLine) (first_is : FirstRead text
           abbrev plan : Plan
           plan = with_rack rack (record { copies = found_copies; left = xs })
 
-          abbrev answer : ReadAnswer
-          answer = answers.Plan (record { disks = first.disks; served = found.served; unserved = tail.unserved; left = tail.count })
+          abbrev answer : Result PlanRead Refusal
+          answer = Ok (record { disks = first.disks; served = found.served; unserved = tail.unserved; left = tail.count })
 
           left_count : length xs ≡ tail.count
           left_count = front_length tail.count left' (omega (arith, tail_read.stored.few))

@@ -1,14 +1,14 @@
 -- The numbers of document 01 for each answer of reading.
-use Rattle.refusal.specs.Verdict.{Verdict, given, Numbers, answered}
-use Rattle.refusal.specs.Numbers.{refusal_of}
+use Rattle.std.specs.Prelude.{Result}
+use Rattle.refusal.specs.Verdict.{Numbers, answered}
+use Rattle.refusal.specs.Numbers.{verdict_of}
+use Rattle.refusal.specs.declared.Refusal.{Refusal}
 use Rattle.plan_text.specs.ReadCall.{Told, told, told_nothing}
-use Rattle.reader.specs.declared.answer.ReadAnswer.{ReadAnswer}
-use Rattle.reader.specs.declared.answer.ReadAnswer.TheVariants.{Plan, Refused}
+use Rattle.reader.specs.declared.answer.PlanRead.{PlanRead}
 
--- The answer as a verdict: what it tells of a plan, or its refusal.
-abbrev pub answer_verdict : ReadAnswer → Verdict Told
-answer_verdict (Plan p) = given (told p.disks p.served p.unserved p.left)
-answer_verdict (Refused r) = refusal_of r
+-- What the answer tells of a plan.
+abbrev pub told_by : PlanRead → Told
+told_by p = told p.disks p.served p.unserved p.left
 
-abbrev pub numbers_of : ReadAnswer → Numbers Told
-numbers_of answer = answered told_nothing (λ t. t) (answer_verdict answer)
+abbrev pub numbers_of : Result PlanRead Refusal → Numbers Told
+numbers_of answer = answered told_nothing told_by (verdict_of answer)

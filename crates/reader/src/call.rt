@@ -1,5 +1,5 @@
 // A call of reading, with packed disks and tables of zeros to work in.
-ghost use Rattle.std.specs.Prelude.{◌≡◌, ◌&&◌, leb, length};
+ghost use Rattle.std.specs.Prelude.{◌≡◌, ◌&&◌, leb, length, OnErr};
 ghost use Rattle.placement.specs.Rack.{most_disks};
 ghost use Rattle.placement.specs.Packed.{disks_in};
 ghost use Rattle.placement.specs.Tables.{tables, room_for, own_tables};
@@ -8,7 +8,7 @@ ghost use Rattle.reader.specs.Answers.{numbers_of};
 ghost use Rattle.reader.specs.Pass.{Judged};
 ghost use Rattle.reader.specs.Promise.{ReadPromise};
 
-use crate::answer::ReadAnswer;
+use crate::answer::PlanRead;
 use crate::plan::read_lines;
 use crate::tables::{copy_entries, store};
 use placement::room;
@@ -24,14 +24,14 @@ pub(crate) fn judge(
     copies: &mut [u64],
     counts: &mut [u32],
     left: &mut [u64],
-) -> ReadAnswer
+) -> Result<PlanRead, Refusal>
     requires { (length rack.old ≡ most_disks) × (tables copies.old counts.old left.old ≡ own_tables) }
     ensures { Judged (text_verdict text.now) (disks_in rack.new)
         (tables copies.old counts.old left.old)
         (tables copies.new counts.new left.new) result }
 {
     if text.len() > MOST_BYTES {
-        return ReadAnswer::Refused(Refusal::TextTooLong);
+        return Err(Refusal::TextTooLong);
     }
     read_lines(text, rack, copies, counts, left)
 }
@@ -65,25 +65,25 @@ pub(crate) fn read_through(
     workcopies: &mut [u64],
     workcounts: &mut [u32],
     workleft: &mut [u64],
-) -> ReadAnswer
+) -> Result<PlanRead, Refusal>
     requires { (length workrack.old ≡ most_disks) × (tables workcopies.old workcounts.old workleft.old ≡ own_tables) }
-    ensures { ReadPromise text.now (disks_in rack.old)
+    ensures promise { ReadPromise text.now (disks_in rack.old)
         (tables copies.old counts.old left.old) (disks_in rack.new)
         (tables copies.new counts.new left.new) (numbers_of result) }
+    ensures unchanged_rack { OnErr result (disks_in rack.new ≡ disks_in rack.old) }
+    ensures unchanged { OnErr result
+        (tables copies.new counts.new left.new ≡ tables copies.old counts.old left.old) }
 {
-    let answer = judge(text, workrack, workcopies, workcounts, workleft);
-    let ReadAnswer::Plan(plan) = answer else {
-        return answer;
-    };
+    let plan = judge(text, workrack, workcopies, workcounts, workleft)?;
     let disks = plan.disks as usize;
     let films = plan.left as usize;
     let read = &workrack[..disks];
     if !enough(read, films, rack, copies, counts, left) {
-        return ReadAnswer::Refused(Refusal::TablesTooShort);
+        return Err(Refusal::TablesTooShort);
     }
     store(
         read, films, workcopies, workcounts, workleft, copies, counts, left,
     );
     copy_entries(read, disks, rack);
-    answer
+    Ok(plan)
 }

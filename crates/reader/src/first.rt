@@ -9,7 +9,6 @@ use crate::cursor::{Cursor, eat_all};
 use crate::line::{end_line, rack_line};
 use crate::pairs::read_pairs;
 use placement::disk_of;
-use refusal::Judgement;
 
 // How many disks the first line has, and the cursor behind it.
 #[derive(Clone, Copy)]
@@ -34,10 +33,9 @@ fn fill(number: u64, n: usize, places: &mut [u64])
 fn mixed_accepted(rack: &[u64]) -> bool
     ensures { result ≡ mixed_accepted (map item_in rack.now) }
 {
-    let judged = placement::judge_rack(rack);
-    let Judgement::Passed = judged else {
+    if placement::judge_rack(rack).is_err() {
         return false;
-    };
+    }
     !well_formed::all_equal(rack)
 }
 

@@ -1,7 +1,7 @@
 // The reader of plan texts: a text is judged line by line, and its plan is stored in a lent list of packed disks and lent tables.
 #![tactic(auto)]
 
-mod answer; // answer.rt: what reading answers
+mod answer; // answer.rt: what reading answers where it does not refuse
 mod call; // call.rt: a call, with tables to work in
 mod class; // class.rt: the classes of bytes
 mod cursor; // cursor.rt: a position in the text
@@ -14,13 +14,15 @@ mod plan; // plan.rt: the whole text
 mod tables; // tables.rt: storing a plan in lent tables
 mod tail; // tail.rt: the lines behind the disks
 
+ghost use Rattle.std.specs.Prelude.{◌≡◌, OnErr};
 ghost use Rattle.placement.specs.Packed.{disks_in};
 ghost use Rattle.placement.specs.Tables.{tables};
 ghost use Rattle.reader.specs.Answers.{numbers_of};
 ghost use Rattle.reader.specs.Promise.{ReadPromise, JudgePromise};
 
-pub use answer::{PlanRead, ReadAnswer};
+pub use answer::PlanRead;
 use call::{judge, read_through};
+use refusal::Refusal;
 
 // Reads a text: its plan is stored in the lent list of packed disks and the lent tables, or a refusal changes none of them.
 pub fn read(
@@ -29,10 +31,13 @@ pub fn read(
     copies: &mut [u64],
     counts: &mut [u32],
     left: &mut [u64],
-) -> ReadAnswer
-    ensures { ReadPromise text.now (disks_in rack.old)
+) -> Result<PlanRead, Refusal>
+    ensures promise { ReadPromise text.now (disks_in rack.old)
         (tables copies.old counts.old left.old) (disks_in rack.new)
         (tables copies.new counts.new left.new) (numbers_of result) }
+    ensures unchanged_rack { OnErr result (disks_in rack.new ≡ disks_in rack.old) }
+    ensures unchanged { OnErr result
+        (tables copies.new counts.new left.new ≡ tables copies.old counts.old left.old) }
 {
     let mut workrack = [0u64; 64];
     let mut workcopies = [0u64; 2048];
@@ -52,7 +57,7 @@ pub fn read(
 }
 
 // Judges a text with nothing lent, so that it is never refused by 7.
-pub fn judge_text(text: &[u8]) -> ReadAnswer
+pub fn judge_text(text: &[u8]) -> Result<PlanRead, Refusal>
     ensures { JudgePromise text.now (numbers_of result) }
 {
     let mut rack = [0u64; 64];

@@ -7,7 +7,7 @@ ghost use Rattle.plan_text.specs.Reading.{plan_read};
 ghost use Rattle.plan_text.specs.ReadCall.{lines_judged};
 ghost use Rattle.reader.specs.Pass.{Judged};
 
-use crate::answer::{PlanRead, ReadAnswer};
+use crate::answer::PlanRead;
 use crate::disks::disk_lines;
 use crate::first::first_line;
 use crate::tail::tail_lines;
@@ -20,7 +20,7 @@ pub(crate) fn read_lines(
     copies: &mut [u64],
     counts: &mut [u32],
     left: &mut [u64],
-) -> ReadAnswer
+) -> Result<PlanRead, Refusal>
     requires { (length rack.old ≡ most_disks) × (tables copies.old counts.old left.old ≡ own_tables) }
     ensures { Judged (lines_judged (plan_read text.now)) (disks_in rack.new)
         (tables copies.old counts.old left.old)
@@ -29,19 +29,19 @@ pub(crate) fn read_lines(
     let first = first_line(text, rack);
     let start = first.after;
     if !start.fits {
-        return ReadAnswer::Refused(Refusal::Line(1));
+        return Err(Refusal::Line(1));
     }
     let n = first.disks as usize;
     let disks = disk_lines(text, start, &rack[..n], copies, counts);
     let after = disks.after;
     if !after.fits {
-        return ReadAnswer::Refused(Refusal::Line(disks.lines + 2));
+        return Err(Refusal::Line(disks.lines + 2));
     }
     let tail = tail_lines(text, after, disks.served, left);
     if !tail.fits {
-        return ReadAnswer::Refused(Refusal::Line(first.disks + tail.lines + 2));
+        return Err(Refusal::Line(first.disks + tail.lines + 2));
     }
-    ReadAnswer::Plan(PlanRead {
+    Ok(PlanRead {
         disks: first.disks,
         served: disks.served,
         unserved: tail.unserved,

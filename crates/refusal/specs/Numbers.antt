@@ -1,10 +1,8 @@
 -- The number and second number of each refusal, as documents 01 and 02 have them.
-use Rattle.std.specs.Prelude.{ℕ}
+use Rattle.std.specs.Prelude.{ℕ, Result, Ok, Err}
 use Rattle.refusal.specs.Verdict.{Verdict, given, refused}
 use Rattle.refusal.specs.declared.Refusal.{Refusal}
 use Rattle.refusal.specs.declared.Refusal.TheVariants.{RackOutOfRange, ListLength, TooManyRecords, FilmOutOfRange, DemandOutOfRange, FilmRepeated, TablesTooShort, TextTooLong, Line, NotWellFormed, SpaceTooShort, DisksOutOfRange, RatioDiffers, TooManyDisks, FirstLinesDiffer, ServiceClip, TerminalTooSmall}
-use Rattle.refusal.specs.declared.Judgement.{Judgement}
-use Rattle.refusal.specs.declared.Judgement.TheVariants.{Passed, Refused}
 
 abbrev pub number_of : Refusal → ℕ
 number_of RackOutOfRange = 1
@@ -49,7 +47,11 @@ second_of TerminalTooSmall = 0
 abbrev pub refusal_of : {A : Type 0} → Refusal → Verdict A
 refusal_of r = refused (number_of r) (second_of r)
 
--- A judgement as a verdict with no value.
-abbrev pub judged : Judgement → Verdict (Unit {0})
-judged Passed = given tt
-judged (Refused r) = refusal_of r
+-- An answer as a verdict.
+abbrev pub verdict_of : {A : Type 0} → Result A Refusal → Verdict A
+verdict_of (Ok a) = given a
+verdict_of (Err r) = refusal_of r
+
+-- A judgement, which has no value, as a verdict.
+abbrev pub judged : Result (Unit {0}) Refusal → Verdict (Unit {0})
+judged j = verdict_of j

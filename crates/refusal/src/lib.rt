@@ -4,8 +4,11 @@
 ghost use Rattle.std.specs.Prelude.{◌≡◌};
 ghost use Rattle.refusal.specs.Numbers.{number_of, second_of};
 
+use std::error::Error;
+use std::fmt;
+
 // The refusals of documents 01 and 02. specs/Numbers.antt gives number and values for each case.
-#[derive(Clone, Copy)]
+#[derive(Clone, Copy, Debug, PartialEq, Eq, Hash)]
 pub enum Refusal {
     RackOutOfRange,
     ListLength,
@@ -26,12 +29,18 @@ pub enum Refusal {
     TerminalTooSmall,
 }
 
-// What a judgement comes to: no refusal applies, or the first that does.
-#[derive(Clone, Copy)]
-pub enum Judgement {
-    Passed,
-    Refused(Refusal),
+// As the programs print it: the number, and the second number where the documents name one.
+impl fmt::Display for Refusal {
+    fn fmt<W: fmt::Write>(&self, f: &mut fmt::Formatter<W>) -> fmt::Result {
+        write!(f, "refused {}", number(*self))?;
+        match second(*self) {
+            0 => Ok(()),
+            named => write!(f, " {named}"),
+        }
+    }
 }
+
+impl Error for Refusal {}
 
 // The number of a refusal.
 pub fn number(refusal: Refusal) -> u32

@@ -3,8 +3,8 @@ ghost use Rattle.std.specs.Prelude.{◌≤◌};
 
 use crate::bytes::least;
 use crate::case::{VALUE, WHAT, field};
-use reader::{PlanRead, ReadAnswer};
-use writer::Written;
+use reader::PlanRead;
+use refusal::Refusal;
 
 // The rack, the tables and the text, as cases number them.
 const RACK: u64 = 10;
@@ -50,8 +50,8 @@ pub(crate) fn lent_of(file: &[u8], case: usize) -> Lent {
 // What was answered.
 #[derive(Clone, Copy)]
 pub(crate) enum Answer {
-    Read(ReadAnswer),
-    Written(Written),
+    Read(Result<PlanRead, Refusal>),
+    Written(Result<u64, Refusal>),
 }
 
 // What can be done after an answer: to write the plan that was read.
@@ -63,10 +63,10 @@ pub(crate) fn task_after(a: Answer) -> Task {
 }
 
 // The task to write the plan that was read.
-fn task_of(r: ReadAnswer) -> Task {
+fn task_of(r: Result<PlanRead, Refusal>) -> Task {
     match r {
-        ReadAnswer::Plan(p) => Task::Write(p),
-        ReadAnswer::Refused(_) => Task::Read,
+        Ok(p) => Task::Write(p),
+        Err(_) => Task::Read,
     }
 }
 
@@ -89,7 +89,7 @@ fn write_plan(
     copies: &[u64],
     counts: &[u32],
     left: &[u64],
-) -> Written {
+) -> Result<u64, Refusal> {
     let n = least(p.disks as usize, rack.len());
     writer::write(&rack[0..n], copies, counts, left, p.left, text)
 }

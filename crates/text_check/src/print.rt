@@ -1,23 +1,12 @@
 // Answers of reading and writing in 01's numbers, written to standard output.
 use crate::lend::Answer;
-use reader::{PlanRead, ReadAnswer};
+use reader::PlanRead;
 use refusal::Refusal;
 use std::io;
-use writer::Written;
 
 // Writes a space and a number.
 fn print_next(rt: &impl Print, n: u64) -> io::Result<()> {
     print!(rt; " {n}")
-}
-
-// Writes a refusal, with its second number if it has one.
-fn print_refusal(rt: &impl Print, r: Refusal) -> io::Result<()> {
-    print!(rt; "refused")?;
-    print_next(rt, refusal::number(r) as u64)?;
-    if refusal::second(r) > 0 {
-        print_next(rt, refusal::second(r) as u64)?;
-    }
-    Ok(())
 }
 
 // Writes a plan's numbers.
@@ -30,10 +19,10 @@ fn print_plan(rt: &impl Print, p: PlanRead) -> io::Result<()> {
 }
 
 // Writes an answer of reading.
-pub(crate) fn print_read(rt: &impl Print, a: ReadAnswer) -> io::Result<()> {
+pub(crate) fn print_read(rt: &impl Print, a: Result<PlanRead, Refusal>) -> io::Result<()> {
     match a {
-        ReadAnswer::Plan(p) => print_plan(rt, p),
-        ReadAnswer::Refused(r) => print_refusal(rt, r),
+        Ok(p) => print_plan(rt, p),
+        Err(r) => print!(rt; "{r}"),
     }
 }
 
@@ -46,10 +35,10 @@ pub(crate) fn print_answer(rt: &impl Print, a: Answer) -> io::Result<()> {
 }
 
 // Writes the number of a refusal of writing, or the length of the text.
-fn print_written(rt: &impl Print, w: Written) -> io::Result<()> {
+fn print_written(rt: &impl Print, w: Result<u64, Refusal>) -> io::Result<()> {
     match w {
-        Written::Length(length) => print_length(rt, length),
-        Written::Refused(r) => print_refusal(rt, r),
+        Ok(length) => print_length(rt, length),
+        Err(r) => print!(rt; "{r}"),
     }
 }
 

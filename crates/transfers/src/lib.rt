@@ -10,7 +10,7 @@ mod sources; // sources.rt: where a film is copied from
 mod stored; // stored.rt: stored copies as numbers
 mod texts; // texts.rt: the two texts
 
-ghost use Rattle.std.specs.Prelude.{◌≡◌, ◌≤◌, length};
+ghost use Rattle.std.specs.Prelude.{◌≡◌, ◌≤◌, length, OnErr};
 ghost use Rattle.placement.specs.Tables.{written};
 ghost use Rattle.transfer_schedule.specs.Counts.{ends};
 ghost use Rattle.transfer_schedule.specs.Transfers.{texts_verdict};
@@ -19,8 +19,7 @@ ghost use Rattle.transfer_schedule.specs.Fits.{most_transfers};
 ghost use Rattle.transfers.specs.Keys.{WorkedOut};
 ghost use Rattle.transfers.specs.Answers.{transfer_numbers};
 
-use answer::TextsRead;
-pub use answer::TransfersAnswer;
+pub use answer::InRounds;
 use count::{count_transfers, put_rows};
 use refusal::Refusal;
 use schedule::transfers_between;
@@ -36,23 +35,16 @@ fn work_out_with(
     entries: &mut [u64],
     oldkeys: &mut [u64],
     newkeys: &mut [u64],
-) -> TransfersAnswer
+) -> Result<InRounds, Refusal>
     requires { (length entries.old ≡ most_transfers) × (length oldkeys.old ≡ most_transfers) × (length newkeys.old ≡ most_transfers) }
     ensures { WorkedOut (texts_verdict old.now new.now) entries.new (transfer_numbers result) }
 {
-    let read = read_texts(old, new, oldkeys, newkeys);
-    match read {
-        TextsRead::NoneStored(refusal) => TransfersAnswer::Refused(refusal),
-        TextsRead::BothStored { old, new } => transfers_between(
-            &oldkeys[..old],
-            &newkeys[..new],
-            entries,
-        ),
-    }
+    let (old_copies, new_copies) = read_texts(old, new, oldkeys, newkeys)?;
+    Ok(transfers_between(&oldkeys[..old_copies], &newkeys[..new_copies], entries))
 }
 
 // Works out the transfers of two texts: their entries stand in front, or the answer is a refusal of the texts.
-fn work_out(old: &[u8], new: &[u8], entries: &mut [u64]) -> TransfersAnswer
+fn work_out(old: &[u8], new: &[u8], entries: &mut [u64]) -> Result<InRounds, Refusal>
     requires { length entries.old ≡ most_transfers }
     ensures { WorkedOut (texts_verdict old.now new.now) entries.new (transfer_numbers result) }
 {
@@ -80,30 +72,24 @@ fn transfers_counted_with(
     list: &mut [u64],
     counts: &mut [[u32; 9]],
     entries: &mut [u64],
-) -> TransfersAnswer
+) -> Result<InRounds, Refusal>
     requires { length entries.old ≡ most_transfers }
-    ensures { CountedPromise old.now new.now list.old list.new
+    ensures promise { CountedPromise old.now new.now list.old list.new
         counts.old counts.new (transfer_numbers result) }
+    ensures unchanged { OnErr result ((list.new ≡ list.old) × (counts.new ≡ counts.old)) }
 {
-    let answer = work_out(old, new, entries);
-    let TransfersAnswer::InRounds {
-        transfers,
-        rounds: _,
-    } = answer
-    else {
-        return answer;
-    };
-    let n = transfers as usize;
+    let made = work_out(old, new, entries)?;
+    let n = made.transfers as usize;
     if list.len() < n {
-        return TransfersAnswer::Refused(Refusal::TablesTooShort);
+        return Err(Refusal::TablesTooShort);
     }
     if counts.len() < ROWS {
-        return TransfersAnswer::Refused(Refusal::TablesTooShort);
+        return Err(Refusal::TablesTooShort);
     }
     let listed = &entries[..n];
     put_entries(listed, list);
     put_rows(count_transfers([[0u32; 9]; 9], listed), counts);
-    answer
+    Ok(made)
 }
 
 // Gives the transfers from an old plan's text to a new one's: the lent list gets an entry for each, and the lent table their counts by source and
@@ -113,17 +99,19 @@ pub fn transfers_counted(
     new: &[u8],
     list: &mut [u64],
     counts: &mut [[u32; 9]],
-) -> TransfersAnswer
-    ensures { CountedPromise old.now new.now list.old list.new
+) -> Result<InRounds, Refusal>
+    ensures promise { CountedPromise old.now new.now list.old list.new
         counts.old counts.new (transfer_numbers result) }
+    ensures unchanged { OnErr result ((list.new ≡ list.old) × (counts.new ≡ counts.old)) }
 {
     let mut entries = [0u64; 256];
     transfers_counted_with(old, new, list, counts, &mut entries)
 }
 
 // Gives the transfers from an old plan's text to a new one's: the lent list gets an entry for each. A refusal changes nothing.
-pub fn transfers(old: &[u8], new: &[u8], list: &mut [u64]) -> TransfersAnswer
-    ensures { TransfersPromise old.now new.now list.old list.new ends (transfer_numbers result) }
+pub fn transfers(old: &[u8], new: &[u8], list: &mut [u64]) -> Result<InRounds, Refusal>
+    ensures promise { TransfersPromise old.now new.now list.old list.new ends (transfer_numbers result) }
+    ensures unchanged { OnErr result (list.new ≡ list.old) }
 {
     let mut table = [[0u32; 9]; 9];
     transfers_counted(old, new, list, &mut table)

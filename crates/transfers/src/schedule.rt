@@ -1,5 +1,5 @@
 // The schedule: each copy that the old plan lacks gets its transfer, one after the other.
-ghost use Rattle.std.specs.Prelude.{◌≡◌, [], map, ◌+◌, ◌≤◌, ◌<◌, length};
+ghost use Rattle.std.specs.Prelude.{◌≡◌, [], Ok, map, ◌+◌, ◌≤◌, ◌<◌, length};
 ghost use Rattle.placement.specs.WellFormed.{Each};
 ghost use Rattle.transfer_schedule.specs.Schedule.{transfer, place_all, schedule as schedule_of, rounds_of};
 ghost use Rattle.transfer_schedule.specs.Fits.{most_transfers, CopyFits, TransferFits};
@@ -8,7 +8,7 @@ ghost use Rattle.transfer_schedule.specs.Words.{InOrder};
 ghost use Rattle.transfers.specs.Keys.{stored_in, row_length, busy_places, BusyTable, FullTable, start_places, SearchStarts, PlacedNext, TransfersMade};
 ghost use Rattle.transfers.specs.Answers.{transfer_numbers};
 
-use crate::answer::TransfersAnswer;
+use crate::answer::InRounds;
 use crate::lacking::put_lacking;
 use crate::rounds::{larger, take_round};
 use crate::sources::{note_starts, source_of};
@@ -69,27 +69,27 @@ fn transfers_between_with(
     starts: &mut [u16],
     busy: &mut [u8],
     full: &mut [u64],
-) -> TransfersAnswer
+) -> InRounds
     requires each { Each CopyFits (map stored_in old.now) × InOrder (map stored_in old.now) × (length old.now ≤ most_transfers) }
     requires each_2 { Each CopyFits (map stored_in new.now) × InOrder (map stored_in new.now) × (length new.now ≤ length entries.old) }
     requires entries_len { (length entries.old ≡ most_transfers) × (length starts.old ≡ start_places) × BusyTable busy.old [] × FullTable busy.old full.old 0 }
-    ensures { TransfersMade (schedule_of (map stored_in old.now) (map stored_in new.now)) entries.new (transfer_numbers result) }
+    ensures { TransfersMade (schedule_of (map stored_in old.now) (map stored_in new.now)) entries.new (transfer_numbers (Ok result)) }
 {
     note_starts(old, starts);
     let n = put_lacking(old, new, entries);
     let rounds = place_all(old, starts, &mut entries[..n], busy, full);
-    TransfersAnswer::InRounds {
+    InRounds {
         transfers: n as u32,
         rounds: rounds as u32,
     }
 }
 
 // The same with space of its own: no copy is noted, since 256 is behind all of them, and no end is busy.
-pub(crate) fn transfers_between(old: &[u64], new: &[u64], entries: &mut [u64]) -> TransfersAnswer
+pub(crate) fn transfers_between(old: &[u64], new: &[u64], entries: &mut [u64]) -> InRounds
     requires each { Each CopyFits (map stored_in old.now) × InOrder (map stored_in old.now) × (length old.now ≤ most_transfers) }
     requires each_2 { Each CopyFits (map stored_in new.now) × InOrder (map stored_in new.now) × (length new.now ≤ length entries.old) }
     requires entries_len { length entries.old ≡ most_transfers }
-    ensures { TransfersMade (schedule_of (map stored_in old.now) (map stored_in new.now)) entries.new (transfer_numbers result) }
+    ensures { TransfersMade (schedule_of (map stored_in old.now) (map stored_in new.now)) entries.new (transfer_numbers (Ok result)) }
 {
     let mut starts = [256u16; 4096];
     let mut busy = [0u8; 2304];

@@ -10,33 +10,28 @@ ghost use Rattle.transfer_schedule.specs.Stored.{stored_from};
 ghost use Rattle.transfer_schedule.specs.Fits.{most_transfers};
 ghost use Rattle.transfer_schedule.specs.Transfers.{same_numbers, racks_judged, texts_verdict};
 ghost use Rattle.transfers.specs.Keys.{TablesFit, KeysHold, StoredText, StoredNew, StoredTexts};
-ghost use Rattle.transfers.specs.Answers.{text_read, texts_read};
+ghost use Rattle.refusal.specs.Numbers.{verdict_of};
 
-use crate::answer::{TextRead, TextsRead};
 use crate::stored::put_disks;
-use reader::ReadAnswer;
 use refusal::Refusal;
 
 // The most disks of a rack whose transfers are found.
 const MOST_TRANSFER_DISKS: usize = 8;
 
 // Puts the keys of a plan's stored copies in front, and answers how many disks it has and how many copies; 0 where the disks are more than 8.
-fn stored_copies(rack: &[u64], copies: &[u64], counts: &[u32], keys: &mut [u64]) -> TextRead
+fn stored_copies(rack: &[u64], copies: &[u64], counts: &[u32], keys: &mut [u64]) -> (usize, usize)
     requires tables_fit { TablesFit (disks_in rack.now) copies.now counts.now }
     requires rack_value { rack_accepted (disks_in rack.now) ≡ true }
     requires keys_len { length keys.old ≡ most_transfers }
     ensures { KeysHold (length rack.now) (stored_from 1 (marked_from (disks_in rack.now) copies.now counts.now))
-        keys.new (text_read result) }
+        keys.new (given result) }
 {
     let disks = rack.len();
     if disks > MOST_TRANSFER_DISKS {
-        return TextRead::Stored { disks, copies: 0 };
+        return (disks, 0);
     }
     let stored = put_disks(rack, copies, counts, keys);
-    TextRead::Stored {
-        disks,
-        copies: stored,
-    }
+    (disks, stored)
 }
 
 // Reads a text into packed disks and tables of zeros: its plan's rack stays in front, and its stored copies are put into keys.
@@ -47,21 +42,18 @@ fn read_with(
     copies: &mut [u64],
     counts: &mut [u32],
     left: &mut [u64],
-) -> TextRead
+) -> Result<(usize, usize), Refusal>
     requires { (length rack.old ≡ most_disks) × (length keys.old ≡ most_transfers) × (tables copies.old counts.old left.old ≡ own_tables) }
-    ensures { StoredText (text_verdict text.now) rack.new keys.new (text_read result) }
+    ensures { StoredText (text_verdict text.now) rack.new keys.new (verdict_of result) }
 {
-    let read = reader::read(text, rack, copies, counts, left);
-    match read {
-        ReadAnswer::Refused(refusal) => TextRead::Declined(refusal),
-        ReadAnswer::Plan(plan) => stored_copies(&rack[..plan.disks as usize], copies, counts, keys),
-    }
+    let plan = reader::read(text, rack, copies, counts, left)?;
+    Ok(stored_copies(&rack[..plan.disks as usize], copies, counts, keys))
 }
 
 // The same with tables of its own.
-fn read_stored(text: &[u8], rack: &mut [u64], keys: &mut [u64]) -> TextRead
+fn read_stored(text: &[u8], rack: &mut [u64], keys: &mut [u64]) -> Result<(usize, usize), Refusal>
     requires { (length rack.old ≡ most_disks) × (length keys.old ≡ most_transfers) }
-    ensures { StoredText (text_verdict text.now) rack.new keys.new (text_read result) }
+    ensures { StoredText (text_verdict text.now) rack.new keys.new (verdict_of result) }
 {
     let mut copies = [0u64; 2048];
     let mut counts = [0u32; 64];
@@ -87,23 +79,25 @@ fn same_racks(old: &[u64], new: &[u64]) -> bool
 }
 
 // Judges two racks: 14, then 15. Equal racks have equal first lines and others have not.
-fn judge_racks(old: &[u64], new: &[u64], oldcopies: usize, newcopies: usize) -> TextsRead
+fn judge_racks(
+    old: &[u64],
+    new: &[u64],
+    oldcopies: usize,
+    newcopies: usize,
+) -> Result<(usize, usize), Refusal>
     requires { (rack_accepted (disks_in old.now) ≡ true) × (rack_accepted (disks_in new.now) ≡ true) }
-    ensures { texts_read result ≡ racks_judged (disks_in old.now) (disks_in new.now) (given (oldcopies, newcopies)) }
+    ensures { verdict_of result ≡ racks_judged (disks_in old.now) (disks_in new.now) (given (oldcopies, newcopies)) }
 {
     if old.len() > MOST_TRANSFER_DISKS {
-        return TextsRead::NoneStored(Refusal::TooManyDisks);
+        return Err(Refusal::TooManyDisks);
     }
     if new.len() > MOST_TRANSFER_DISKS {
-        return TextsRead::NoneStored(Refusal::TooManyDisks);
+        return Err(Refusal::TooManyDisks);
     }
     if !same_racks(old, new) {
-        return TextsRead::NoneStored(Refusal::FirstLinesDiffer);
+        return Err(Refusal::FirstLinesDiffer);
     }
-    TextsRead::BothStored {
-        old: oldcopies,
-        new: newcopies,
-    }
+    Ok((oldcopies, newcopies))
 }
 
 // Reads the new text behind an old one, and judges both racks.
@@ -113,21 +107,13 @@ fn read_new(
     oldcopies: usize,
     newrack: &mut [u64],
     newkeys: &mut [u64],
-) -> TextsRead
+) -> Result<(usize, usize), Refusal>
     requires oldrack_value { rack_accepted (disks_in oldrack.now) ≡ true }
     requires newrack_len { (length newrack.old ≡ most_disks) × (length newkeys.old ≡ most_transfers) }
-    ensures { StoredNew (text_verdict new.now) (disks_in oldrack.now) oldcopies newkeys.new (texts_read result) }
+    ensures { StoredNew (text_verdict new.now) (disks_in oldrack.now) oldcopies newkeys.new (verdict_of result) }
 {
-    let read = read_stored(new, newrack, newkeys);
-    match read {
-        TextRead::Declined(refusal) => TextsRead::NoneStored(refusal),
-        TextRead::Stored { disks, copies } => judge_racks(
-            oldrack,
-            &newrack[..disks],
-            oldcopies,
-            copies,
-        ),
-    }
+    let (disks, copies) = read_stored(new, newrack, newkeys)?;
+    judge_racks(oldrack, &newrack[..disks], oldcopies, copies)
 }
 
 // Reads both texts, with space for their racks: the old one's refusals, then the new one's, then 14 and 15.
@@ -138,22 +124,13 @@ fn read_texts_with(
     newrack: &mut [u64],
     oldkeys: &mut [u64],
     newkeys: &mut [u64],
-) -> TextsRead
+) -> Result<(usize, usize), Refusal>
     requires oldrack_len { (length oldrack.old ≡ most_disks) × (length oldkeys.old ≡ most_transfers) }
     requires newrack_len { (length newrack.old ≡ most_disks) × (length newkeys.old ≡ most_transfers) }
-    ensures { StoredTexts (texts_verdict old.now new.now) oldkeys.new newkeys.new (texts_read result) }
+    ensures { StoredTexts (texts_verdict old.now new.now) oldkeys.new newkeys.new (verdict_of result) }
 {
-    let read = read_stored(old, oldrack, oldkeys);
-    match read {
-        TextRead::Declined(refusal) => TextsRead::NoneStored(refusal),
-        TextRead::Stored { disks, copies } => read_new(
-            new,
-            &oldrack[..disks],
-            copies,
-            newrack,
-            newkeys,
-        ),
-    }
+    let (disks, copies) = read_stored(old, oldrack, oldkeys)?;
+    read_new(new, &oldrack[..disks], copies, newrack, newkeys)
 }
 
 // The same with racks of its own.
@@ -162,9 +139,9 @@ pub(crate) fn read_texts(
     new: &[u8],
     oldkeys: &mut [u64],
     newkeys: &mut [u64],
-) -> TextsRead
+) -> Result<(usize, usize), Refusal>
     requires { (length oldkeys.old ≡ most_transfers) × (length newkeys.old ≡ most_transfers) }
-    ensures { StoredTexts (texts_verdict old.now new.now) oldkeys.new newkeys.new (texts_read result) }
+    ensures { StoredTexts (texts_verdict old.now new.now) oldkeys.new newkeys.new (verdict_of result) }
 {
     let mut oldrack = [0u64; 64];
     let mut newrack = [0u64; 64];

@@ -2,10 +2,8 @@
 use Rattle.std.proofs.Common.{◌≡◌, ℕ, zero, suc, ◌+◌, ◌<◌, ◌≤◌, true, false, leb, List, [], ◌∷◌, length, get_or, take, sym, refl, ap, ◌∙◌, arith, le-leb}
 use borrow.Author.Tests.{lt-leb}
 use Rattle.refusal.specs.Verdict.{Verdict, given, refused, unless}
-use Rattle.refusal.specs.Numbers.{refusal_of, judged}
+use Rattle.refusal.specs.Numbers.{refusal_of}
 use Rattle.refusal.specs.declared.Refusal.{Refusal}
-use Rattle.refusal.specs.declared.Judgement.{Judgement}
-use Rattle.refusal.specs.declared.Judgement.TheVariants.{Refused}
 use Rattle.refusal.proofs.Verdicts.{and_then, unless_passes, unless_refuses}
 use Rattle.placement.specs.Rack.{Disk, disk, first_slots, first_load, disks_in_range, same_ratio, all_same_ratio, rack_accepted}
 use Rattle.placement.specs.Planning.{ratio_judged_from, rack_judged}
@@ -72,9 +70,8 @@ module _ (c : WriteCall) (room : List ℕ) where
       ∙ ratio_other (first_slots c.rack) (first_load c.rack) by_tables 1 c.rack d r.inside r.before r.other
 
   -- The refusal of a rack that was judged.
-  pub refused_judged : (j : Judgement) (r : Refusal) → j ≡ Refused r → judged j ≡ rack_judged c.rack (given tt) → write_verdict c room ≡ refusal_of r
-  refused_judged j r is e =
-      rack_then c.rack by_tables ∙ ap (λ (v : Verdict (Unit {0})). and_then v by_tables) (sym e ∙ ap judged is)
+  pub refused_judged : (r : Refusal) → refusal_of {A = Unit {0}} r ≡ rack_judged c.rack (given tt) → write_verdict c room ≡ refusal_of r
+  refused_judged r e = rack_then c.rack by_tables ∙ ap (λ (v : Verdict (Unit {0})). and_then v by_tables) (sym e)
 
   -- The rack is accepted, or it is refused, and 13 alone has a second number.
   pub by_rack :

@@ -1,15 +1,9 @@
--- The numbers for each case of `write`'s answer.
-use Rattle.std.specs.Prelude.{ℕ}
-use Rattle.refusal.specs.Verdict.{Verdict, given, Numbers}
-use Rattle.refusal.specs.Numbers.{refusal_of}
+-- The numbers of `write`'s answer: the text's length, or the refusal.
+use Rattle.std.specs.Prelude.{ℕ, Result}
+use Rattle.refusal.specs.Verdict.{Numbers}
+use Rattle.refusal.specs.Numbers.{verdict_of}
+use Rattle.refusal.specs.declared.Refusal.{Refusal}
 use Rattle.plan_text.specs.WriteCall.{write_answer}
-use Rattle.writer.specs.declared.answer.Written.{Written}
-use Rattle.writer.specs.declared.answer.Written.TheVariants.{Length, Refused}
 
--- An answer as a verdict: the text's length, or the refusal.
-abbrev pub written_verdict : Written → Verdict ℕ
-written_verdict (Length n) = given n
-written_verdict (Refused r) = refusal_of r
-
-abbrev pub written_numbers : Written → Numbers ℕ
-written_numbers w = write_answer (written_verdict w)
+abbrev pub written_numbers : Result ℕ Refusal → Numbers ℕ
+written_numbers w = write_answer (verdict_of w)

@@ -1,7 +1,8 @@
 -- `plan_after::plan_marked` meets its contract: planning's refusal, or the plan of the call and then its marks.
 use mathlib.Core.List.{List}
-use mathlib.Core.Path.{ap}
+use mathlib.Core.Path.{refl}
 use native.Mathlib.Omega.{arith}
+use Rattle.std.proofs.lemmas.Result.{err_from_is_err_and}
 use Rattle.placement.specs.Items.{Item}
 use Rattle.placement.specs.Copies.{layout_of}
 use Rattle.placement.specs.Packed.{disks_in}
@@ -10,35 +11,34 @@ use Rattle.placement.specs.Held.{marked_from}
 use Rattle.placement.specs.Planning.{Call, call}
 use Rattle.planner.proofs.Fulfilled.{plannable}
 use Rattle.refusal.proofs.Refusals.{number_some}
-use Rattle.planner.specs.declared.answer.Answer.{Answer}
-use Rattle.planner.specs.Answers.{plan_numbers}
 use Rattle.plan_after.proofs.Steps.{planned_given, refused_plan, marked_plan_lem}
 use Rattle.plan_after.proofs.plan_marked.Goals as goal
 
-pub returns-in_default : goal.returns-in_default
-returns-in_default c =
+pub returns-in_err-sums-clause-promise : goal.returns-in_err-sums-clause-promise
+returns-in_err-sums-clause-promise c =
     let called : Call = call (disks_in c.args.rack.now) c.args.list.now in
     let lent : Tables = tables c.args.copies.now c.args.counts.now c.args.left.now in
     let held : List (List Item) = layout_of (marked_from (disks_in c.args.heldrack.now) c.args.heldcopies.now c.args.heldcounts.now) in
-    let after = refused_plan called lent c.plan-answer.ensures held (rw c.in_default.is (number_some c.in_default.field-0)) in
-    record { numbers = after.0; tables = after.1 }
+    let p = err_from_is_err_and c.from_residual.result c.from_residual.ensures.1 in
+    let after = refused_plan called lent c.in_err-sums.ensures.promise held (number_some _) in
+    rw (p.1, p.2) (record { numbers = after.0; tables = after.1 })
 
-pub returns : goal.returns
-returns c =
+pub returns-clause-promise : goal.returns-clause-promise
+returns-clause-promise c =
     let called : Call = call (disks_in c.args.rack.now) c.args.list.now in
     let lent : Tables = tables c.args.copies.now c.args.counts.now c.args.left.now in
     let held : List (List Item) = layout_of (marked_from (disks_in c.args.heldrack.now) c.args.heldcopies.now c.args.heldcounts.now) in
     let after =
-    marked_plan_lem called lent c.plan-answer.ensures held c.requires.films
-    (ap (λ (a : Answer). (plan_numbers a).refusal) c.in-Planned.is) c.mark_disks.ensures in
+    marked_plan_lem called lent c.in_ok-sums.ensures.promise held c.requires.films
+    refl c.mark_disks.ensures in
     record { numbers = after.0; tables = after.1 }
 
 pub mark_disks-requires : goal.mark_disks-requires
 mark_disks-requires c =
     let called : Call = call (disks_in c.args.rack.now) c.args.list.now in
     let lent : Tables = tables c.args.copies.now c.args.counts.now c.args.left.now in
-    let e = planned_given called lent c.plan-answer.ensures (ap (λ (a : Answer). (plan_numbers a).refusal) c.in-Planned.is) in
+    let e = planned_given called lent c.in_ok-sums.ensures.promise refl in
     record {
-      rack_in_bounds = omega (arith, (plannable called lent e).copies, c.plan-answer.auto.copies);
+      rack_in_bounds = omega (arith, (plannable called lent e).copies, c.plan.auto.copies);
       held_before = c.requires;
     }

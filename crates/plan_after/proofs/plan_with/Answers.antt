@@ -30,44 +30,44 @@ plan_marked-requires c =
     let after : Tables = tables c.read-read.new.copies c.read-read.new.counts c.read-read.new.left in
     let enough : most_disks ≤ length (disks_in c.args.heldrack.now) = omega (arith, disks_length c.args.heldrack.now, c.requires.0) in
     let rack_after : List ℕ = c.read-read.new.rack in
-    let promised : ReadPromise text_of (disks_in c.args.heldrack.now) own_tables (disks_in rack_after) after (numbers_of c.read-read.result) = subst (λ (t : Tables). ReadPromise text_of (disks_in c.args.heldrack.now) t (disks_in rack_after) after (numbers_of c.read-read.result)) c.requires.1 c.read-read.ensures in
+    let promised : ReadPromise text_of (disks_in c.args.heldrack.now) own_tables (disks_in rack_after) after (numbers_of c.read-read.result) = subst (λ (t : Tables). ReadPromise text_of (disks_in c.args.heldrack.now) t (disks_in rack_after) after (numbers_of c.read-read.result)) c.requires.1 c.read-read.ensures.promise in
     let copies_wide : length after.copies ≡ 2048 = c.read-read.auto.copies ∙ ap (λ (t : Tables). length t.copies) c.requires.1 ∙ length-replicate {A = ℕ} 2048 0 in
     let counts_wide : length after.counts ≡ 64 = c.read-read.auto.counts ∙ ap (λ (t : Tables). length t.counts) c.requires.1 ∙ length-replicate {A = ℕ} 64 0 in
-    let found : (p : Plan) × (text_verdict text_of ≡ given p) × (c.in-Plan.held.disks ≡ length p.rack) = read_given text_of _ enough promised (told c.in-Plan.held.disks c.in-Plan.held.served c.in-Plan.held.unserved c.in-Plan.held.left) (ap numbers_of c.in-Plan.is) in
-    let rack_is : disks_in (take c.in-Plan.held.disks rack_after) ≡ found.0.rack = take_disks c.in-Plan.held.disks rack_after ∙ ap (λ (n : ℕ). take n (disks_in rack_after)) found.2 ∙ rack_read_lem text_of _ enough promised found.0 found.1 in
+    let found : (p : Plan) × (text_verdict text_of ≡ given p) × (c.in-Ok.held.disks ≡ length p.rack) = read_given text_of _ enough promised (told c.in-Ok.held.disks c.in-Ok.held.served c.in-Ok.held.unserved c.in-Ok.held.left) (ap numbers_of c.in-Ok.is) in
+    let rack_is : disks_in (take c.in-Ok.held.disks rack_after) ≡ found.0.rack = take_disks c.in-Ok.held.disks rack_after ∙ ap (λ (n : ℕ). take n (disks_in rack_after)) found.2 ∙ rack_read_lem text_of _ enough promised found.0 found.1 in
     subst (λ (rack : List Disk). HeldBefore rack after.copies after.counts) (sym rack_is)
     (held_before text_of _ enough promised found.0 found.1 copies_wide counts_wide)
 
-pub returns-in-Refused : goal.returns-in-Refused
-returns-in-Refused c =
+pub returns-in-Err-clause-promise : goal.returns-in-Err-clause-promise
+returns-in-Err-clause-promise c =
     let called : Call = call (disks_in c.args.rack.now) c.args.list.now in
     let lent : Tables = tables c.args.copies.now c.args.counts.now c.args.left.now in
     let text_of : List ℕ = c.args.earlier.now in
     let enough : most_disks ≤ length (disks_in c.args.heldrack.now) = omega (arith, disks_length c.args.heldrack.now, c.requires.0) in
     let rack_after : List ℕ = c.read-read.new.rack in
     let after : Tables = tables c.read-read.new.copies c.read-read.new.counts c.read-read.new.left in
-    let promised : ReadPromise text_of (disks_in c.args.heldrack.now) own_tables (disks_in rack_after) after (numbers_of c.read-read.result) = subst (λ (t : Tables). ReadPromise text_of (disks_in c.args.heldrack.now) t (disks_in rack_after) after (numbers_of c.read-read.result)) c.requires.1 c.read-read.ensures in
-    let r = c.in-Refused.refusal in
+    let promised : ReadPromise text_of (disks_in c.args.heldrack.now) own_tables (disks_in rack_after) after (numbers_of c.read-read.result) = subst (λ (t : Tables). ReadPromise text_of (disks_in c.args.heldrack.now) t (disks_in rack_after) after (numbers_of c.read-read.result)) c.requires.1 c.read-read.ensures.promise in
+    let r = c.in-Err.refusal in
     refused_behind called text_of lent (number_of r) (second_of r)
-    (read_refused text_of _ enough promised r (ap numbers_of c.in-Refused.is))
-    c.plan_behind.ensures.numbers c.plan_behind.ensures.tables
+    (read_refused text_of _ enough promised r (ap numbers_of c.in-Err.is))
+    c.plan_behind.ensures.promise.numbers c.plan_behind.ensures.promise.tables
 
-pub returns-in-Plan : goal.returns-in-Plan
-returns-in-Plan c =
+pub returns-in-Ok-clause-promise : goal.returns-in-Ok-clause-promise
+returns-in-Ok-clause-promise c =
     let called : Call = call (disks_in c.args.rack.now) c.args.list.now in
     let lent : Tables = tables c.args.copies.now c.args.counts.now c.args.left.now in
     let text_of : List ℕ = c.args.earlier.now in
     let rack_after : List ℕ = c.read-read.new.rack in
     let after : Tables = tables c.read-read.new.copies c.read-read.new.counts c.read-read.new.left in
     let enough : most_disks ≤ length (disks_in c.args.heldrack.now) = omega (arith, disks_length c.args.heldrack.now, c.requires.0) in
-    let promised : ReadPromise text_of (disks_in c.args.heldrack.now) own_tables (disks_in rack_after) after (numbers_of c.read-read.result) = subst (λ (t : Tables). ReadPromise text_of (disks_in c.args.heldrack.now) t (disks_in rack_after) after (numbers_of c.read-read.result)) c.requires.1 c.read-read.ensures in
-    let found : (p : Plan) × (text_verdict text_of ≡ given p) × (c.in-Plan.held.disks ≡ length p.rack) = read_given text_of _ enough promised (told c.in-Plan.held.disks c.in-Plan.held.served c.in-Plan.held.unserved c.in-Plan.held.left) (ap numbers_of c.in-Plan.is) in
-    let rack_is : disks_in (take c.in-Plan.held.disks rack_after) ≡ found.0.rack = take_disks c.in-Plan.held.disks rack_after ∙ ap (λ (n : ℕ). take n (disks_in rack_after)) found.2 ∙ rack_read_lem text_of _ enough promised found.0 found.1 in
+    let promised : ReadPromise text_of (disks_in c.args.heldrack.now) own_tables (disks_in rack_after) after (numbers_of c.read-read.result) = subst (λ (t : Tables). ReadPromise text_of (disks_in c.args.heldrack.now) t (disks_in rack_after) after (numbers_of c.read-read.result)) c.requires.1 c.read-read.ensures.promise in
+    let found : (p : Plan) × (text_verdict text_of ≡ given p) × (c.in-Ok.held.disks ≡ length p.rack) = read_given text_of _ enough promised (told c.in-Ok.held.disks c.in-Ok.held.served c.in-Ok.held.unserved c.in-Ok.held.left) (ap numbers_of c.in-Ok.is) in
+    let rack_is : disks_in (take c.in-Ok.held.disks rack_after) ≡ found.0.rack = take_disks c.in-Ok.held.disks rack_after ∙ ap (λ (n : ℕ). take n (disks_in rack_after)) found.2 ∙ rack_read_lem text_of _ enough promised found.0 found.1 in
     let p = found.0 in
-    let copies : marked_from (disks_in (take c.in-Plan.held.disks rack_after)) after.copies after.counts ≡ p.copies =
+    let copies : marked_from (disks_in (take c.in-Ok.held.disks rack_after)) after.copies after.counts ≡ p.copies =
     ap (λ (rack : List Disk). marked_from rack after.copies after.counts) rack_is
     ∙ copies_read text_of _ enough promised p found.1 in
-    marked_promise called text_of lent p found.1 c.plan_marked.ensures.numbers
-    (c.plan_marked.ensures.tables
+    marked_promise called text_of lent p found.1 c.plan_marked.ensures.promise.numbers
+    (c.plan_marked.ensures.promise.tables
     ∙ ap (λ (l : List (List Copy)). afterwards lent (λ (u : Unit {0}). holding_for called (plan_after (layout_of l) called) lent)
     (verdict called lent)) copies)

@@ -10,4 +10,4 @@ use Rattle.transfers.proofs.transfer_counts.Goals as goal
 pub returns : goal.returns
 returns c =
     let a = c.args in
-    counts_promise a.old.now a.new.now (own_list a.old.now a.new.now (replicate 256 0) (count_table []) refl refl refl c.transfers_counted.ensures.counts)
+    counts_promise a.old.now a.new.now (own_list a.old.now a.new.now (replicate 256 0) (count_table []) refl refl refl c.transfers_counted.ensures.promise.counts)

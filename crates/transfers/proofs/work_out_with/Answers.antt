@@ -6,23 +6,22 @@ use native.Mathlib.Omega.{arith}
 use lib.Seq.{length-take-le}
 use Rattle.transfer_schedule.specs.Transfers.{texts_verdict}
 use Rattle.transfers.specs.Keys.{StoredTexts}
-use Rattle.transfers.specs.Answers.{texts_read}
 use Rattle.transfers.proofs.TextsSteps.{BothAs, both_as, olds_fit, news_fit, olds_ordered, news_ordered}
 use Rattle.transfers.proofs.work_out_with.Goals as goal
 
 pub transfers_between-requires : goal.transfers_between-requires
 transfers_between-requires c =
-    let oldkeys : List ℕ = c.read_texts-read.new.oldkeys in
-    let newkeys : List ℕ = c.read_texts-read.new.newkeys in
-    let m : ℕ = c.in-BothStored.old in
-    let n : ℕ = c.in-BothStored.new in
-    let plans_read : BothAs (texts_verdict c.args.old.now c.args.new.now) oldkeys newkeys m n = both_as (texts_verdict c.args.old.now c.args.new.now) oldkeys newkeys m n (subst (StoredTexts (texts_verdict c.args.old.now c.args.new.now) oldkeys newkeys) (ap texts_read c.in-BothStored.is) c.read_texts-read.ensures) in
+    let oldkeys : List ℕ = c.read_texts.new.oldkeys in
+    let newkeys : List ℕ = c.read_texts.new.newkeys in
+    let m : ℕ = c.in_ok-old_copies.old_copies in
+    let n : ℕ = c.in_ok-old_copies.new_copies in
+    let plans_read : BothAs (texts_verdict c.args.old.now c.args.new.now) oldkeys newkeys m n = both_as (texts_verdict c.args.old.now c.args.new.now) oldkeys newkeys m n c.in_ok-old_copies.ensures in
     let a = c.args in
     let r = plans_read in
     let long = length-take-le m oldkeys r.old_room in
     let longer = length-take-le n newkeys r.new_room in
     record {
-      each = (olds_fit a.old.now a.new.now oldkeys newkeys m n r, olds_ordered a.old.now a.new.now oldkeys newkeys m n r, omega (arith, long, r.old_room, c.read_texts-read.auto.oldkeys, c.requires.1));
-      each_2 = (news_fit a.old.now a.new.now oldkeys newkeys m n r, news_ordered a.old.now a.new.now oldkeys newkeys m n r, omega (arith, longer, r.new_room, c.read_texts-read.auto.newkeys, c.requires.2, c.requires.0));
+      each = (olds_fit a.old.now a.new.now oldkeys newkeys m n r, olds_ordered a.old.now a.new.now oldkeys newkeys m n r, omega (arith, long, r.old_room, c.read_texts.auto.oldkeys, c.requires.1));
+      each_2 = (news_fit a.old.now a.new.now oldkeys newkeys m n r, news_ordered a.old.now a.new.now oldkeys newkeys m n r, omega (arith, longer, r.new_room, c.read_texts.auto.newkeys, c.requires.2, c.requires.0));
       entries_len = c.requires.0;
     }

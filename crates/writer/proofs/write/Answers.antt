@@ -1,5 +1,6 @@
 -- `write` meets its contract: at each `return` one law of the verdict says how the call ends.
 use Rattle.std.proofs.Common.{◌≡◌, ℕ, ◌≤◌, true, List, length, sym, refl, ap, arith}
+use Rattle.std.proofs.lemmas.Result.{err_from_is_err_and}
 use Rattle.refusal.specs.Verdict.{given}
 use Rattle.placement.specs.Rack.{rack_accepted}
 use Rattle.placement.specs.Packed.{disks_in}
@@ -13,45 +14,43 @@ use Rattle.writer.proofs.Verdicts.{refused_judged, refused_tables, refused_plan,
 use Rattle.writer.proofs.Promises.{promise_at}
 use Rattle.writer.proofs.write.Goals as goal
 
-pub returns-in-Refused : goal.returns-in-Refused
-returns-in-Refused c =
+pub returns-in_err-judge_rack-clause-promise : goal.returns-in_err-judge_rack-clause-promise
+returns-in_err-judge_rack-clause-promise c =
     let called : WriteCall = (let a = c.args in write_call (disks_in a.rack.now) (tables a.copies.now a.counts.now a.left.now) a.films) in
-    let space : List ℕ = c.args.text.now in
-    promise_at
-    (refused_judged called space c.judge_rack-judged.result _ c.in-Refused.is c.judge_rack-judged.ensures)
-    refl refl
+    let p = err_from_is_err_and c.from_residual.result c.from_residual.ensures.1 in
+    rw (p.1, p.2) (promise_at (refused_judged called c.args.text.now _ c.in_err-judge_rack.ensures) refl refl)
 
-pub returns-then-not-room : goal.returns-then-not-room
-returns-then-not-room c =
+pub returns-then-not-room-clause-promise : goal.returns-then-not-room-clause-promise
+returns-then-not-room-clause-promise c =
     let called : WriteCall = (let a = c.args in write_call (disks_in a.rack.now) (tables a.copies.now a.counts.now a.left.now) a.films) in
     let space : List ℕ = c.args.text.now in
-    let rack_holds : rack_accepted called.rack ≡ true = (rack_given_lem called.rack (given tt) tt (sym c.in_default.ensures)).0 in
+    let rack_holds : rack_accepted called.rack ≡ true = (rack_given_lem called.rack (given tt) tt (sym c.in_ok-judge_rack.ensures)).0 in
     promise_at (refused_tables called space rack_holds (sym c.if-not-room.ensures)) refl refl
 
-pub returns-then-not-formed : goal.returns-then-not-formed
-returns-then-not-formed c =
+pub returns-then-not-formed-clause-promise : goal.returns-then-not-formed-clause-promise
+returns-then-not-formed-clause-promise c =
     let called : WriteCall = (let a = c.args in write_call (disks_in a.rack.now) (tables a.copies.now a.counts.now a.left.now) a.films) in
     let space : List ℕ = c.args.text.now in
-    let rack_holds : rack_accepted called.rack ≡ true = (rack_given_lem called.rack (given tt) tt (sym c.in_default.ensures)).0 in
+    let rack_holds : rack_accepted called.rack ≡ true = (rack_given_lem called.rack (given tt) tt (sym c.in_ok-judge_rack.ensures)).0 in
     let room_holds : room_stated called ≡ true = sym c.if-not-room.ensures in
     promise_at (refused_plan called space rack_holds room_holds (sym c.if-not-formed.ensures)) refl refl
 
-pub returns-then-text-length : goal.returns-then-text-length
-returns-then-text-length c =
+pub returns-then-text-length-clause-promise : goal.returns-then-text-length-clause-promise
+returns-then-text-length-clause-promise c =
     let called : WriteCall = (let a = c.args in write_call (disks_in a.rack.now) (tables a.copies.now a.counts.now a.left.now) a.films) in
     let space : List ℕ = c.args.text.now in
-    let rack_holds : rack_accepted called.rack ≡ true = (rack_given_lem called.rack (given tt) tt (sym c.in_default.ensures)).0 in
+    let rack_holds : rack_accepted called.rack ≡ true = (rack_given_lem called.rack (given tt) tt (sym c.in_ok-judge_rack.ensures)).0 in
     let room_holds : room_stated called ≡ true = sym c.if-not-room.ensures in
     let formed_holds : well_formed_call called ≡ true = sym c.if-not-formed.ensures in
     promise_at
     (refused_space called space rack_holds room_holds formed_holds (omega (arith, c.if-text-length.true, c.text_length-length.ensures)))
     refl refl
 
-pub returns : goal.returns
-returns c =
+pub returns-clause-promise : goal.returns-clause-promise
+returns-clause-promise c =
     let called : WriteCall = (let a = c.args in write_call (disks_in a.rack.now) (tables a.copies.now a.counts.now a.left.now) a.films) in
     let space : List ℕ = c.args.text.now in
-    let rack_holds : rack_accepted called.rack ≡ true = (rack_given_lem called.rack (given tt) tt (sym c.in_default.ensures)).0 in
+    let rack_holds : rack_accepted called.rack ≡ true = (rack_given_lem called.rack (given tt) tt (sym c.in_ok-judge_rack.ensures)).0 in
     let room_holds : room_stated called ≡ true = sym c.if-not-room.ensures in
     let formed_holds : well_formed_call called ≡ true = sym c.if-not-formed.ensures in
     let counted = c.text_length-length.ensures in
@@ -64,7 +63,7 @@ returns c =
 pub formed-requires : goal.formed-requires
 formed-requires c =
     let called : WriteCall = (let a = c.args in write_call (disks_in a.rack.now) (tables a.copies.now a.counts.now a.left.now) a.films) in
-    let rack_holds : rack_accepted called.rack ≡ true = (rack_given_lem called.rack (given tt) tt (sym c.in_default.ensures)).0 in
+    let rack_holds : rack_accepted called.rack ≡ true = (rack_given_lem called.rack (given tt) tt (sym c.in_ok-judge_rack.ensures)).0 in
     let room_holds : room_stated called ≡ true = sym c.if-not-room.ensures in
     record {
       rack_value = rack_holds;

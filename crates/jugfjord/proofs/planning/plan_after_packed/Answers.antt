@@ -10,4 +10,4 @@ pub returns : goal.returns
 returns c =
     held_promise c.args.rack _ c.held_count-count.ensures
     (λ (asked : Call) (entry exit : Tables) (answer : Numbers PlanSums). PlanAfterPromise asked c.args.earlier.now entry exit answer)
-    c.planned_numbers.ensures c.plan_after.ensures
+    c.planned_numbers.ensures c.plan_after.ensures.promise

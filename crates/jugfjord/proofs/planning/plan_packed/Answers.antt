@@ -6,4 +6,4 @@ use Rattle.jugfjord.proofs.planning.plan_packed.Goals as goal
 pub returns : goal.returns
 returns c =
     let lent = c.args in
-    held_promise lent.rack _ c.held_count-count.ensures PlanPromise c.planned_numbers.ensures c.plan.ensures
+    held_promise lent.rack _ c.held_count-count.ensures PlanPromise c.planned_numbers.ensures c.plan.ensures.promise

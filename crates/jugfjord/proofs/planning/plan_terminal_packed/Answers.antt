@@ -6,4 +6,4 @@ use Rattle.jugfjord.proofs.planning.plan_terminal_packed.Goals as goal
 pub returns : goal.returns
 returns c =
     let lent = c.args in
-    held_promise lent.rack _ c.held_count-count.ensures TerminalPromise c.planned_numbers.ensures c.plan_terminal.ensures
+    held_promise lent.rack _ c.held_count-count.ensures TerminalPromise c.planned_numbers.ensures c.plan_terminal.ensures.promise

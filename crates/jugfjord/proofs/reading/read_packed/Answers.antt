@@ -6,4 +6,4 @@ pub returns : goal.returns
 returns c =
     let lent = c.args in
     array_into lent.text.now lent.entries c.places_for-places.result c.read.new.rack c.places_for-places.ensures
-    c.read_numbers-plan.ensures c.read.ensures
+    c.read_numbers-plan.ensures c.read.ensures.promise

@@ -16,4 +16,4 @@ returns c =
     let exit = c.write.new.text in
     subst (λ (rack : List Disk). WritePromise (write_call rack entry lent.left_films) lent.text.now exit (written_fields c.written_numbers.result))
     (held_same lent.rack c.held_count-count.result c.held_count-count.ensures)
-    (subst (WritePromise _ lent.text.now exit) (sym c.written_numbers.ensures) c.write.ensures)
+    (subst (WritePromise _ lent.text.now exit) (sym c.written_numbers.ensures) c.write.ensures.promise)

@@ -7,17 +7,17 @@ use Rattle.plan_output.proofs.Texts.{planned_shown}
 use Rattle.plan_output.proofs.Outputs.{shown_as}
 use Rattle.plan_output.proofs.printing.print_with.Goals as goal
 
-pub returns-in-Planned : goal.returns-in-Planned
-returns-in-Planned c =
+pub returns-in-Ok : goal.returns-in-Ok
+returns-in-Ok c =
     let asked : Call = call (disks_in c.args.rack.now) c.args.list.now in
     let held : Tables = tables c.plan.new.copies c.plan.new.counts c.plan.new.left in
-    planned_shown asked c.plan.result {after = held} c.requires c.plan.ensures
-    c.in-Planned.is c.write.ensures c.length_of.ensures
+    planned_shown asked c.plan.result {after = held} c.requires c.plan.ensures.promise
+    c.in-Ok.is c.write.ensures.promise c.length_of.ensures
 
-pub returns-in-Refused : goal.returns-in-Refused
-returns-in-Refused c =
+pub returns-in-Err : goal.returns-in-Err
+returns-in-Err c =
     let asked : Call = call (disks_in c.args.rack.now) c.args.list.now in
     let held : Tables = tables c.plan.new.copies c.plan.new.counts c.plan.new.left in
     shown_as c.refuse.ensures
-    (refused_printed asked c.plan.result {after = held} c.requires c.plan.ensures
-    c.in-Refused.is)
+    (refused_printed asked c.plan.result {after = held} c.requires c.plan.ensures.promise
+    c.in-Err.is)

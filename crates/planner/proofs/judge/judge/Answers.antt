@@ -6,7 +6,7 @@ use Prim.Native.Nat.{ℕ}
 use lib.ListN.{length}
 use Rattle.refusal.specs.Verdict.{Verdict, given, refused}
 use Rattle.refusal.proofs.Verdicts.{and_then, unless_passes, unless_refuses}
-use Rattle.refusal.specs.Numbers.{judged}
+use Rattle.std.proofs.lemmas.Result.{err_from_is_err_and}
 use Rattle.placement.specs.Rack.{Disk}
 use Rattle.placement.specs.Packed.{disks_in}
 use Rattle.placement.specs.Records.{record_count, shape_judged, records_judged, list_judged}
@@ -54,30 +54,34 @@ room_by : (rack : List Disk) (n : ℕ) (t : Tables) {copies counts left : ℕ} �
     → length t.left ≡ left → room_for rack n t ≡ room_in rack n copies counts left
 room_by rack n t {copies} {counts} p q r = ap₂ (λ (a b : ℕ). room_in rack n a b (length t.left)) p q ∙ ap (room_in rack n copies counts) r
 
-pub returns-in_default : goal.returns-in_default
-returns-in_default c =
-    λ t copies counts left.
+pub returns-in_err-judge_rack : goal.returns-in_err-judge_rack
+returns-in_err-judge_rack c =
+    let p = err_from_is_err_and c.from_residual.result c.from_residual.ensures.1 in
+    rw (p.1, p.2)
+    (λ t copies counts left.
     let a = c.args in
-    rack_refused (disks_in a.rack.now) a.list.now t _ (rw c.in_default.is refl) c.judge_rack-disks.ensures
+    rack_refused (disks_in a.rack.now) a.list.now t _ refl c.in_err-judge_rack.ensures)
 
-pub returns-in_default-shape : goal.returns-in_default-shape
-returns-in_default-shape c =
-    let accepted_rack : rack_judged {A = Unit {0}} (disks_in c.args.rack.now) (given tt) ≡ given tt = sym c.judge_rack-disks.ensures ∙ ap judged c.in-Passed.is in
-    λ t copies counts left.
+pub returns-in_err-judge_shape : goal.returns-in_err-judge_shape
+returns-in_err-judge_shape c =
+    let p = err_from_is_err_and c.from_residual-in_err-judge_shape.result c.from_residual-in_err-judge_shape.ensures.1 in
+    let accepted_rack : rack_judged {A = Unit {0}} (disks_in c.args.rack.now) (given tt) ≡ given tt = sym c.in_ok-judge_rack.ensures in
+    rw (p.1, p.2)
+    (λ t copies counts left.
     let a = c.args in
-    shape_refused (disks_in a.rack.now) a.list.now t accepted_rack _ (rw c.in_default-shape.is refl) c.judge_shape-shape.ensures
+    shape_refused (disks_in a.rack.now) a.list.now t accepted_rack _ refl c.in_err-judge_shape.ensures)
 
 pub returns-then-not-room : goal.returns-then-not-room
 returns-then-not-room c =
-    let accepted_rack : rack_judged {A = Unit {0}} (disks_in c.args.rack.now) (given tt) ≡ given tt = sym c.judge_rack-disks.ensures ∙ ap judged c.in-Passed.is in
+    let accepted_rack : rack_judged {A = Unit {0}} (disks_in c.args.rack.now) (given tt) ≡ given tt = sym c.in_ok-judge_rack.ensures in
     λ t copies counts left.
     let a = c.args in
-    room_refused (disks_in a.rack.now) a.list.now t accepted_rack (sym c.judge_shape-shape.ensures ∙ ap judged c.in-Passed-shape.is)
+    room_refused (disks_in a.rack.now) a.list.now t accepted_rack (sym c.in_ok-judge_shape.ensures)
     (room_by (disks_in a.rack.now) (record_count a.list.now) t copies counts left ∙ sym c.room.ensures ∙ c.if-not-room.true)
 
 pub returns : goal.returns
 returns c =
-    let accepted_rack : rack_judged {A = Unit {0}} (disks_in c.args.rack.now) (given tt) ≡ given tt = sym c.judge_rack-disks.ensures ∙ ap judged c.in-Passed.is in
+    let accepted_rack : rack_judged {A = Unit {0}} (disks_in c.args.rack.now) (given tt) ≡ given tt = sym c.in_ok-judge_rack.ensures in
     λ t copies counts left.
     let a = c.args in
     c.judge_list.ensures
