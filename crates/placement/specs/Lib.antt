@@ -9,6 +9,7 @@ pub mod Shelf
 pub mod Sharing
 pub mod Records
 pub mod Tables
+pub mod LentTables
 pub mod Packed
 pub mod Plan
 pub mod PlanExamples

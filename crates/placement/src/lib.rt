@@ -5,11 +5,13 @@ mod entry; // entry.rt: an entry of a table as one number
 mod mixed; // mixed.rt: a rack of large and small disks, its refusals and its room
 mod packed; // packed.rt: a disk as one number
 mod rack; // rack.rt: slots, streams and the rack of equal disks, and their ranges
+mod tables; // tables.rt: the three tables of a plan
 
 pub use entry::{MARK, copy_film, copy_mark, entry_amount, entry_film, entry_of, with_mark};
 pub use mixed::{all_slots, judge_rack, room};
 pub use packed::{disk_of, disk_slots, disk_streams};
 pub use rack::{Rack, Slots, Streams, accepted};
+pub use tables::{LentTables, PlanTables};
 
 // The limits of document 01's table.
 pub const MOST_DISKS: u32 = 64;
