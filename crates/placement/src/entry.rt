@@ -12,7 +12,7 @@ const HALF: u64 = 4_294_967_296;
 pub fn entry_of(film: u32, amount: u32) -> u64
     ensures { result ≡ entry_of (item film amount) }
 {
-    amount as u64 * HALF + film as u64
+    u64::from(amount) * HALF + u64::from(film)
 }
 
 // The film of an entry.

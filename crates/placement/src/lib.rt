@@ -10,7 +10,7 @@ mod tables; // tables.rt: the three tables of a plan
 pub use entry::{MARK, copy_film, copy_mark, entry_amount, entry_film, entry_of, with_mark};
 pub use mixed::{all_slots, judge_rack, room};
 pub use packed::{disk_of, disk_slots, disk_streams};
-pub use rack::{Rack, Slots, Streams, accepted};
+pub use rack::{Rack, Slots, Streams, accepted, in_range};
 pub use tables::{LentTables, PlanTables};
 
 // The limits of document 01's table.

@@ -8,69 +8,54 @@ ghost use Rattle.placement.specs.Tables.{room_in};
 ghost use Rattle.placement.specs.Planning.{ratio_judged_from, rack_judged};
 
 use crate::packed::{disk_slots, disk_streams};
-use crate::rack::in_range;
+use crate::rack::{Slots, Streams, in_range};
 use crate::{MOST_DISKS, MOST_SLOTS, MOST_STREAMS};
 use refusal::Refusal;
+
+// The most slots of an accepted rack.
+const MOST_PLACES: usize = 2_048;
 
 // Whether a disk's slots and streams are in their ranges.
 fn in_ranges(disk: u64) -> bool
     ensures { result ≡ disk_in_range (disk_in «disk») }
 {
-    if !in_range(MOST_SLOTS, disk_slots(disk).0) {
-        return false;
-    }
-    in_range(MOST_STREAMS, disk_streams(disk).0)
+    in_range(MOST_SLOTS, disk_slots(disk).0) && in_range(MOST_STREAMS, disk_streams(disk).0)
 }
 
-// Whether every disk is in its ranges: the disks from one on give the answer for all.
+// Whether every disk is in its ranges.
 fn all_in_range(rack: &[u64]) -> bool
     ensures { result ≡ all_in_range (disks_in rack.now) }
 {
-    let mut d = 0;
-    while d < rack.len() {
-        if !in_ranges(rack[d]) {
-            return false;
-        }
-        d += 1;
-    }
-    true
+    rack.iter().all(|disk| in_ranges(*disk))
 }
 
 // Whether there are 1 to 64 disks, each in its ranges.
 fn disks_in_range(rack: &[u64]) -> bool
     ensures { result ≡ disks_in_range (disks_in rack.now) }
 {
-    if rack.len() < 1 {
-        return false;
-    }
-    if rack.len() > MOST_DISKS as usize {
-        return false;
-    }
-    all_in_range(rack)
+    (1..=MOST_DISKS as usize).contains(&rack.len()) && all_in_range(rack)
 }
 
 // Whether a disk's streams are to its slots as `streams` to `slots`.
-fn same_ratio(slots: u64, streams: u64, disk: u64) -> bool
-    requires { (slots ≤ 4294967295) × (streams ≤ 4294967295) }
-    ensures { result ≡ same_ratio slots streams (disk_in «disk») }
+fn same_ratio(slots: Slots, streams: Streams, disk: u64) -> bool
+    ensures { result ≡ same_ratio slots.0 streams.0 (disk_in «disk») }
 {
-    disk_streams(disk).0 as u64 * slots == streams * disk_slots(disk).0 as u64
+    u64::from(disk_streams(disk).0) * u64::from(slots.0)
+        == u64::from(streams.0) * u64::from(disk_slots(disk).0)
 }
 
-// The first disk of another ratio than disk 1: the disks from one on give the verdict on all.
+// The first disk of another ratio than disk 1.
 fn judge_ratios(rack: &[u64]) -> Result<(), Refusal>
     requires { disks_in_range (disks_in rack.now) ≡ true }
     ensures { verdict_of result
         ≡ ratio_judged_from (first_slots (disks_in rack.now)) (first_load (disks_in rack.now)) 1 (disks_in rack.now) (given tt) }
 {
-    let slots = disk_slots(rack[0]).0 as u64;
-    let streams = disk_streams(rack[0]).0 as u64;
-    let mut d = 0;
-    while d < rack.len() {
-        if !same_ratio(slots, streams, rack[d]) {
+    let slots = disk_slots(rack[0]);
+    let streams = disk_streams(rack[0]);
+    for (d, disk) in rack.iter().enumerate() {
+        if !same_ratio(slots, streams, *disk) {
             return Err(Refusal::RatioDiffers(d as u32 + 1));
         }
-        d += 1;
     }
     Ok(())
 }
@@ -89,17 +74,10 @@ pub fn judge_rack(rack: &[u64]) -> Result<(), Refusal>
 pub fn all_slots(rack: &[u64]) -> usize
     ensures { result ≡ min (all_slots (disks_in rack.now)) (most_disks * most_slots) }
 {
-    let mut sum = 0usize;
-    let mut d = 0;
-    while d < rack.len() {
-        let slots = disk_slots(rack[d]).0 as usize;
-        if 2_048 - sum < slots {
-            return 2_048;
-        }
-        sum += slots;
-        d += 1;
-    }
-    sum
+    rack.iter()
+        .map(|disk| disk_slots(*disk).0 as usize)
+        .fold(0, |sum, slots| sum.saturating_add(slots))
+        .min(MOST_PLACES)
 }
 
 // Whether so many places are enough for all slots: each disk takes its own.
@@ -107,14 +85,12 @@ fn slots_fit(rack: &[u64], places: usize) -> bool
     ensures { result ≡ leb (all_slots (disks_in rack.now)) places }
 {
     let mut free = places;
-    let mut d = 0;
-    while d < rack.len() {
-        let slots = disk_slots(rack[d]).0 as usize;
+    for disk in rack {
+        let slots = disk_slots(*disk).0 as usize;
         if free < slots {
             return false;
         }
         free -= slots;
-        d += 1;
     }
     true
 }
@@ -123,11 +99,5 @@ fn slots_fit(rack: &[u64], places: usize) -> bool
 pub fn room(rack: &[u64], films: usize, copies: usize, counts: usize, left: usize) -> bool
     ensures { result ≡ room_in (disks_in rack.now) films copies counts left }
 {
-    if !slots_fit(rack, copies) {
-        return false;
-    }
-    if counts < rack.len() {
-        return false;
-    }
-    films <= left
+    slots_fit(rack, copies) && rack.len() <= counts && films <= left
 }

@@ -6,16 +6,16 @@ use crate::{MOST_DISKS, MOST_SLOTS, MOST_STREAMS};
 
 // How many films a disk can store: 01's k.
 #[repr(C)]
-#[derive(Clone, Copy)]
+#[derive(Clone, Copy, Debug, PartialEq, Eq, PartialOrd, Ord, Hash)]
 pub struct Slots(pub u32);
 
 // How many viewers a disk can serve at a time: 01's load L.
 #[repr(C)]
-#[derive(Clone, Copy)]
+#[derive(Clone, Copy, Debug, PartialEq, Eq, PartialOrd, Ord, Hash)]
 pub struct Streams(pub u32);
 
 // A rack of equal disks: 01's N, k and L.
-#[derive(Clone, Copy)]
+#[derive(Clone, Copy, Debug, PartialEq, Eq, Hash)]
 pub struct Rack {
     pub disks: u32,
     pub slots: Slots,
@@ -23,24 +23,17 @@ pub struct Rack {
 }
 
 // Whether a number is at least 1 and at most a limit.
-pub(crate) fn in_range(most: u32, n: u32) -> bool
+pub fn in_range(most: u32, n: u32) -> bool
     ensures { result ≡ in_range most n }
 {
-    if n < 1 {
-        return false;
-    }
-    n <= most
+    (1..=most).contains(&n)
 }
 
 // Whether each of the rack's numbers is in its range.
 pub fn accepted(rack: Rack) -> bool
     ensures { result ≡ sizes_in_range rack.disks rack.slots.0 rack.streams.0 }
 {
-    if !in_range(MOST_DISKS, rack.disks) {
-        return false;
-    }
-    if !in_range(MOST_SLOTS, rack.slots.0) {
-        return false;
-    }
-    in_range(MOST_STREAMS, rack.streams.0)
+    in_range(MOST_DISKS, rack.disks)
+        && in_range(MOST_SLOTS, rack.slots.0)
+        && in_range(MOST_STREAMS, rack.streams.0)
 }
