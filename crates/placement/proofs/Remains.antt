@@ -2,7 +2,7 @@
 -- all taken.
 use mathlib.Core.Path.{◌≡◌}
 use mathlib.Core.List.{List}
-use Prim.Native.Nat.{ℕ, ◌+◌, ◌-◌, ◌*◌, ◌≤◌, ◌<◌}
+use Prim.Native.Nat.{ℕ, ◌+◌, ◌*◌, ◌≤◌, ◌<◌}
 use lib.ListN.{length}
 use Rattle.placement.specs.Items.{Item, total}
 use Rattle.placement.specs.Rack.{Disk, all_slots, all_loads}

@@ -2,11 +2,11 @@
 -- follow.
 use mathlib.Core.Path.{◌≡◌, refl}
 use mathlib.Core.List.{List, [], ◌∷◌}
-use Prim.Native.Nat.{ℕ, suc, ◌+◌, ◌-◌, ◌*◌, ◌≤◌}
+use Prim.Native.Nat.{ℕ, suc, ◌+◌, ◌*◌, ◌≤◌}
 use native.Mathlib.Nat.{mul-add, add-mul, mul-suc}
 use native.Mathlib.Omega.{arith}
 use Rattle.placement.specs.Items.{Item, total}
-use Rattle.placement.specs.Rack.{Disk, all_slots, all_loads}
+use Rattle.placement.specs.Rack.{Disk}
 use Rattle.placement.specs.Window.{within, window_of}
 use Rattle.placement.specs.Disk.{list_after}
 use Rattle.placement.specs.Promise.{UniformFrom}

@@ -7,14 +7,13 @@ use native.Mathlib.Nat.{mul_right_comm, eq_of_mul-eq-mul_right}
 use native.Mathlib.Omega.{arith}
 use borrow.Author.Tests.{leb-true, leb-false}
 use lib.Dec.{leb}
-use lib.ListN.{length}
 use Rattle.placement.specs.Rack.{Disk, first_slots, first_load, least_from, least_slots, rack_accepted}
 use Rattle.placement.specs.FillingOrder.{insert_at, filling_place, filling}
 use Rattle.placement.specs.Promise.{UniformFrom, Uniform}
 use Rattle.placement.specs.WellFormed.{Each}
 use Rattle.placement.proofs.Tests.{by_order}
 use Rattle.placement.proofs.Each.{each_map, each_both}
-use Rattle.placement.proofs.Racks.{accepted_disks, accepted_slots, accepted_load}
+use Rattle.placement.proofs.Racks.{accepted_slots, accepted_load}
 use Rattle.placement.proofs.DiskRanges.{DiskInRange, accepted_range, OfRatio, accepted_ratio}
 
 -- A disk with at least so many slots, of the ratio l to k.

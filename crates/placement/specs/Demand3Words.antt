@@ -1,5 +1,5 @@
 -- Racks, demands, copies and sharings of document 01's cases on which the words of demand 3 are tried.
-use Rattle.std.specs.Prelude.{ℕ, List, [], ◌∷◌, ◌++◌, map}
+use Rattle.std.specs.Prelude.{List, [], ◌∷◌, ◌++◌, map}
 use Rattle.placement.specs.Items.{Item, item, ◌∶◌, list_of}
 use Rattle.placement.specs.Rack.{Disk, disk, rack_of}
 use Rattle.placement.specs.Method.{placement}

@@ -1,5 +1,5 @@
 -- What one disk stores of its window, what remains, and the list for the next disk.
-use Rattle.std.specs.Prelude.{ℕ, ◌+◌, ◌-◌, cond, List, [], ◌∷◌, ◌++◌, ltb, length, get_or, take}
+use Rattle.std.specs.Prelude.{ℕ, ◌-◌, cond, List, [], ◌∷◌, ◌++◌, ltb, length, get_or, take}
 use Rattle.placement.specs.Items.{Item, item, total, enter}
 use Rattle.placement.specs.Rack.{Disk}
 use Rattle.placement.specs.Window.{within, outside, window_of}

@@ -76,7 +76,7 @@ pub fn all_slots(rack: &[u64]) -> usize
 {
     rack.iter()
         .map(|disk| disk_slots(*disk).0 as usize)
-        .fold(0, |sum, slots| sum.saturating_add(slots))
+        .fold(0, usize::saturating_add)
         .min(MOST_PLACES)
 }
 

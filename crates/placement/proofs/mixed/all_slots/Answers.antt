@@ -1,5 +1,5 @@
 -- The slots of every number added up, as those of the disks.
-use Rattle.std.proofs.Common.{◌≡◌, ◌∙◌, ◌+◌, ℕ, map, min, rules, arith}
+use Rattle.std.proofs.Common.{◌≡◌, ◌+◌, map, min, rules, arith}
 use Rattle.std.specs.List.{fold}
 use Rattle.placement.specs.Packed.{disk_in}
 use Rattle.placement.proofs.PackedRacks.{slots_folded}
