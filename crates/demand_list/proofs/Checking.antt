@@ -38,64 +38,55 @@ checked_none list seen e = record {
 pub checked_all : (list : List ℕ) (seen : List Bool) (i : ℕ) → Checked list seen i → length list / 8 ≤ i → given tt ≡ judged_records list
 checked_all list seen i s h = sym (s.verdict ∙ verdict_from_end list i h)
 
--- Record i is read, with its film and its demand.
-pub record Reading (list : List ℕ) (seen : List Bool) (i film demand : ℕ) : Type 0 where
-  pub checked : Checked list seen i
-  pub here : i < length list / 8
-  pub film_is : film ≡ number32 list (8 * i)
-  pub demand_is : demand ≡ number32 list (8 * i + 4)
-
-module _ {list : List ℕ} {seen : List Bool} {i film demand : ℕ} (r : Reading list seen i film demand) where
-  -- The tests on what was read are those of the record.
+-- Record i is read, with its film and its demand: the tests on what was read are those of the record.
+module _ {list : List ℕ} {seen : List Bool} {i film demand : ℕ} (checked : Checked list seen i) (here : i < length list / 8)
+    (film_is : film ≡ number32 list (8 * i)) (demand_is : demand ≡ number32 list (8 * i + 4)) where
   film_test : (b : Bool) → in_range most_plan_film film ≡ b → in_range most_plan_film (number32 list (8 * i)) ≡ b
-  film_test b e = ap (λ (n : ℕ). in_range most_plan_film n) (sym r.film_is) ∙ e
+  film_test b e = ap (λ (n : ℕ). in_range most_plan_film n) (sym film_is) ∙ e
 
   listed_test : (b : Bool) → leb film most_film ≡ b → leb (number32 list (8 * i)) most_film ≡ b
-  listed_test b e = ap (λ (n : ℕ). leb n most_film) (sym r.film_is) ∙ e
+  listed_test b e = ap (λ (n : ℕ). leb n most_film) (sym film_is) ∙ e
 
   demand_test : (b : Bool) → leb demand most_demand ≡ b → leb (number32 list (8 * i + 4)) most_demand ≡ b
-  demand_test b e = ap (λ (n : ℕ). leb n most_demand) (sym r.demand_is) ∙ e
+  demand_test b e = ap (λ (n : ℕ). leb n most_demand) (sym demand_is) ∙ e
 
   -- A refusal of record i is the refusal of the list.
   refuses : (number : ℕ) → verdict_from list i ≡ refused number (suc i) → refused number (i + 1) ≡ judged_records list
-  refuses number e = ap (λ (n : ℕ). refused number n) (add-one i) ∙ sym (r.checked.verdict ∙ e)
+  refuses number e = ap (λ (n : ℕ). refused number n) (add-one i) ∙ sym (checked.verdict ∙ e)
 
-  pub refuses_film : in_range most_plan_film film ≡ false → refused 4 (i + 1) ≡ judged_records list
-  refuses_film e = refuses 4 (film_refused list i r.here (film_test false e))
+  pub refuses_film : false ≡ in_range most_plan_film film → refused 4 (i + 1) ≡ judged_records list
+  refuses_film e = refuses 4 (film_refused list i here (film_test false (sym e)))
 
-  pub refuses_clip : in_range most_plan_film film ≡ true → most_film < film → refused 16 (i + 1) ≡ judged_records list
-  refuses_clip film_passed h =
-      refuses 16 (clip_refused list i r.here (film_test true film_passed) (listed_test false (lt-leb film most_film h)))
+  module _ (film_passed : true ≡ in_range most_plan_film film) where
+    passed : in_range most_plan_film (number32 list (8 * i)) ≡ true
+    passed = film_test true (sym film_passed)
 
-  module _ (film_passed : in_range most_plan_film film ≡ true) (film_listed : film ≤ most_film) where
-    -- The film is one that a list may hold.
-    listed : leb (number32 list (8 * i)) most_film ≡ true
-    listed = listed_test true (le-leb film most_film film_listed)
+    pub refuses_clip : most_film < film → refused 16 (i + 1) ≡ judged_records list
+    refuses_clip h = refuses 16 (clip_refused list i here passed (listed_test false (lt-leb film most_film h)))
 
-    pub refuses_demand : most_demand < demand → refused 5 (i + 1) ≡ judged_records list
-    refuses_demand h =
-        refuses 5
-        (demand_refused list i r.here (film_test true film_passed) listed (demand_test false (lt-leb demand most_demand h)))
+    module _ (film_listed : film ≤ most_film) where
+      listed : leb (number32 list (8 * i)) most_film ≡ true
+      listed = listed_test true (le-leb film most_film film_listed)
 
-    -- The film has a place in the table.
-    pub film_placed : film < length seen
-    film_placed = omega (arith, film_listed, r.checked.films)
+      pub refuses_demand : most_demand < demand → refused 5 (i + 1) ≡ judged_records list
+      refuses_demand h = refuses 5 (demand_refused list i here passed listed (demand_test false (lt-leb demand most_demand h)))
 
-    module _ (demand_passed : demand ≤ most_demand) where
-      pub refuses_repeated : get_or seen film false ≡ true → refused 6 (i + 1) ≡ judged_records list
-      refuses_repeated e =
-          refuses 6
-          (film_repeated list i r.here (film_test true film_passed) listed (demand_test true (le-leb demand most_demand demand_passed))
-          (not-true _ (marks_read seen list i film true r.film_is r.checked.marks e)))
+      module _ (demand_passed : demand ≤ most_demand) where
+        wanted : leb (number32 list (8 * i + 4)) most_demand ≡ true
+        wanted = demand_test true (le-leb demand most_demand demand_passed)
 
-      -- A record without a fault is checked, with its film marked.
-      pub checked_more : get_or seen film false ≡ false → Checked list (set seen film true) (i + 1)
-      checked_more e = record {
-        within = omega (arith, r.here);
-        verdict = r.checked.verdict
-            ∙ record_passed list i r.here (film_test true film_passed) listed (demand_test true (le-leb demand most_demand demand_passed))
-            (not-false _ (marks_read seen list i film false r.film_is r.checked.marks e))
-            ∙ ap (λ (k : ℕ). verdict_from list k) (sym (add-one i));
-        marks = marks_record seen list i film r.film_is film_placed r.checked.marks;
-        films = length-set seen film true ∙ r.checked.films;
-      }
+        pub refuses_repeated : get_or seen film false ≡ true → refused 6 (i + 1) ≡ judged_records list
+        refuses_repeated e =
+            refuses 6
+            (film_repeated list i here passed listed wanted (not-true _ (marks_read seen list i film true film_is checked.marks e)))
+
+        -- A record without a fault is checked, with its film marked.
+        pub checked_more : get_or seen film false ≡ false → Checked list (set seen film true) (i + 1)
+        checked_more e = record {
+          within = omega (arith, here);
+          verdict = checked.verdict
+              ∙ record_passed list i here passed listed wanted (not-false _ (marks_read seen list i film false film_is checked.marks e))
+              ∙ ap (λ (k : ℕ). verdict_from list k) (sym (add-one i));
+          marks = marks_record seen list i film film_is (omega (arith, film_listed, checked.films)) checked.marks;
+          films = length-set seen film true ∙ checked.films;
+        }

@@ -26,6 +26,5 @@ pub fn judge_list(list: &[u8]) -> Result<(), Refusal>
     ensures { verdict_of result ≡ list_judged list.now (given tt) }
 {
     judge_shape(list)?;
-    let mut seen = [false; 65536];
-    judge_records(list, &mut seen)
+    judge_records(list)
 }

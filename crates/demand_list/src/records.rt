@@ -1,37 +1,25 @@
 // The faults of demand records, looked for record by record.
-ghost use Rattle.std.specs.Prelude.{◌≡◌, false, ◌/◌, ◌≤◌, length, replicate};
+ghost use Rattle.std.specs.Prelude.{◌≡◌, ◌/◌, ◌≤◌, length};
 ghost use Rattle.refusal.specs.Verdict.{given};
 ghost use Rattle.refusal.specs.Numbers.{verdict_of};
-ghost use Rattle.placement.specs.Rack.{in_range, most_plan_film, most_records};
+ghost use Rattle.placement.specs.Rack.{most_records};
 ghost use Rattle.placement.specs.Records.{records_judged};
 
 use crate::number::number32;
-use placement::{MOST_DEMAND, MOST_FILM, MOST_PLAN_FILM};
+use placement::{MOST_DEMAND, MOST_FILM, MOST_PLAN_FILM, in_range};
 use refusal::Refusal;
 
-// Whether a number is a film's.
-fn film_in_range(film: u32) -> bool
-    ensures { result ≡ in_range most_plan_film film }
-{
-    if film < 1 {
-        return false;
-    }
-    film <= MOST_PLAN_FILM
-}
-
-// The first fault of the records, in one pass: `seen` has a place for each film, and the films of the records before are marked.
-pub(crate) fn judge_records(list: &[u8], seen: &mut [bool]) -> Result<(), Refusal>
-    requires list_len_bound { length list.now / 8 ≤ most_records }
-    requires seen_value { seen.old ≡ replicate 65536 false }
+// The first fault of the records, in one pass that marks the film of each.
+pub(crate) fn judge_records(list: &[u8]) -> Result<(), Refusal>
+    requires { length list.now / 8 ≤ most_records }
     ensures { verdict_of result ≡ records_judged list.now (given tt) }
 {
-    let count = list.len() / 8;
-    let mut i = 0;
-    while i < count {
+    let mut seen = [false; 65536];
+    for i in 0..list.len() / 8 {
         let film = number32(list, 8 * i);
         let demand = number32(list, 8 * i + 4);
         let position = i as u32 + 1;
-        if !film_in_range(film) {
+        if !in_range(MOST_PLAN_FILM, film) {
             return Err(Refusal::FilmOutOfRange(position));
         }
         if MOST_FILM < film {
@@ -45,7 +33,6 @@ pub(crate) fn judge_records(list: &[u8], seen: &mut [bool]) -> Result<(), Refusa
             return Err(Refusal::FilmRepeated(position));
         }
         seen[place] = true;
-        i += 1;
     }
     Ok(())
 }
