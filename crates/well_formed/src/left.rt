@@ -3,7 +3,7 @@ ghost use Rattle.std.specs.Prelude.{◌≡◌, map};
 ghost use Rattle.placement.specs.Tables.{item_in};
 ghost use Rattle.placement.specs.Plan.{every, ascending_above, left_film_accepted, left_accepted};
 
-use crate::entry;
+use placement::{MOST_DEMAND, MOST_PLAN_FILM, entry_amount, entry_film, in_range};
 
 // Document 01's most left films.
 const MOST_LEFT: usize = 1_024;
@@ -12,39 +12,27 @@ const MOST_LEFT: usize = 1_024;
 fn left_film_accepted(left: u64) -> bool
     ensures { result ≡ left_film_accepted (item_in left) }
 {
-    if !entry::film_accepted(left) {
-        return false;
-    }
-    placement::entry_amount(left) <= placement::MOST_DEMAND
+    in_range(MOST_PLAN_FILM, entry_film(left)) && entry_amount(left) <= MOST_DEMAND
 }
 
 // Whether every left film is accepted.
 fn every_left_film_accepted(left: &[u64]) -> bool
     ensures { result ≡ every left_film_accepted (map item_in left.now) }
 {
-    let mut i = 0;
-    while i < left.len() {
-        if !left_film_accepted(left[i]) {
-            return false;
-        }
-        i += 1;
-    }
-    true
+    left.iter().all(|film| left_film_accepted(*film))
 }
 
-// Whether the films ascend strictly from above 0. What is left, above the last film passed, gives the answer for the whole.
+// Whether the films ascend strictly from above 0.
 fn films_ascend(left: &[u64]) -> bool
     ensures { result ≡ ascending_above 0 (map item_in left.now) }
 {
     let mut last = 0;
-    let mut i = 0;
-    while i < left.len() {
-        let film = placement::entry_film(left[i]);
+    for entry in left {
+        let film = entry_film(*entry);
         if film <= last {
             return false;
         }
         last = film;
-        i += 1;
     }
     true
 }
@@ -53,11 +41,5 @@ fn films_ascend(left: &[u64]) -> bool
 pub fn left_accepted(left: &[u64]) -> bool
     ensures { result ≡ left_accepted (map item_in left.now) }
 {
-    if left.len() > MOST_LEFT {
-        return false;
-    }
-    if !films_ascend(left) {
-        return false;
-    }
-    every_left_film_accepted(left)
+    left.len() <= MOST_LEFT && films_ascend(left) && every_left_film_accepted(left)
 }

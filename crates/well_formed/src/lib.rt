@@ -2,7 +2,6 @@
 #![tactic(auto)]
 
 mod copies;
-mod entry;
 mod left;
 mod places;
 mod racks;

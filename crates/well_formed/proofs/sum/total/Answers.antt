@@ -1,12 +1,11 @@
--- `well_formed::total` meets its contract. The invariant: the sum is that of the entries passed, capped, each amount below 2³².
-use mathlib.Core.Path.{◌∙◌}
-use native.Mathlib.Omega.{arith}
-use Rattle.well_formed.proofs.Sums.{total_more}
+-- The amounts of every entry added up, as those of the items.
+use Rattle.std.proofs.Common.{◌≡◌, ◌+◌, map, min, rules, arith}
+use Rattle.std.specs.List.{fold}
+use Rattle.placement.specs.Tables.{item_in}
+use Rattle.well_formed.proofs.Sums.{summed}
 use Rattle.well_formed.proofs.sum.total.Goals as goal
 
-pub loop-i-preserved : goal.loop-i-preserved
-loop-i-preserved c =
-    let entries = c.args.entries.now in
-    let more = total_more entries c.loop-i.i c.loop-i-test.true in
-    let amount = c.entry_amount-amount.ensures in
-    (omega arith, c.plus-sum.ensures ∙ omega (arith, more, amount), omega (arith, more, amount))
+pub returns : goal.returns
+returns c =
+    let sum : c.fold.result ≡ fold (λ sum amount. min (sum + amount) 18446744073709551615) 0 (map (λ n. (item_in n).amount) c.args.entries.now) = search rules in
+    summed c.args.entries.now c.fold.result (λ i. omega (arith, c.type_inv.entries i)) sum
