@@ -12,24 +12,18 @@ pub const MOST_PACKED: usize = 65;
 
 // A disk as a caller lends it: `struct jugfjord_disk` of the header.
 #[repr(C)]
-#[derive(Clone, Copy)]
+#[derive(Clone, Copy, Debug, PartialEq, Eq, Hash)]
 pub struct DiskEntry {
     pub slots: Slots,
     pub streams: Streams,
 }
 
 // Disks as numbers: the first `count` of `disks`. What they hold is all that a packed rack says; no function looks further.
-#[derive(Clone, Copy)]
+// No ArrayVec: `held_count` and `unpack` answer for every value, a count above 65 included, which that type excludes.
+#[derive(Clone, Copy, Debug)]
 pub struct PackedDisks {
     pub count: usize,
     pub disks: [u64; 65],
-}
-
-// The smaller of two numbers.
-fn lesser(a: usize, b: usize) -> usize
-    ensures { result ≡ min a b }
-{
-    if a < b { a } else { b }
 }
 
 // The entry's disk as one number.
@@ -37,13 +31,6 @@ fn number_of(entry: DiskEntry) -> u64
     ensures { disk_in result ≡ disk_of entry }
 {
     disk_of(entry.slots, entry.streams)
-}
-
-// The first `count` of the numbers, as a packed rack.
-fn packed_of(count: usize, disks: [u64; 65]) -> PackedDisks
-    ensures { held_disks result ≡ take count (disks_in disks) }
-{
-    PackedDisks { count, disks }
 }
 
 // The entry of a disk's number.
@@ -60,28 +47,26 @@ fn entry_for(number: u64) -> DiskEntry
 pub fn held_count(packed: PackedDisks) -> usize
     ensures { result ≡ length (held_disks packed) }
 {
-    lesser(packed.count, MOST_PACKED)
+    packed.count.min(MOST_PACKED)
 }
 
 // How many of the disks fit into `room` entries.
 fn fitting(packed: PackedDisks, room: usize) -> usize
     ensures { result ≡ min (length (held_disks packed)) room }
 {
-    lesser(held_count(packed), room)
+    held_count(packed).min(room)
 }
 
 // The disks of the lent entries, as many as there is room for.
 pub fn pack(rack: &[DiskEntry]) -> PackedDisks
     ensures { held_disks result ≡ take 65 (disks_of_entries rack.now) }
 {
-    let n = lesser(rack.len(), MOST_PACKED);
-    let mut disks: [u64; 65] = [0; 65];
-    let mut i: usize = 0;
-    while i < n {
-        disks[i] = number_of(rack[i]);
-        i = i + 1;
+    let count = rack.len().min(MOST_PACKED);
+    let mut disks = [0; 65];
+    for (i, entry) in rack[..count].iter().enumerate() {
+        disks[i] = number_of(*entry);
     }
-    packed_of(n, disks)
+    PackedDisks { count, disks }
 }
 
 // Puts the disks into the front of the lent entries, as many as fit. The entries behind them stay as they are.
@@ -90,11 +75,8 @@ pub fn unpack(packed: PackedDisks, rack: &mut [DiskEntry])
         ≡ take (length rack.old) (held_disks packed)
         ++ drop (length (held_disks packed)) (disks_of_entries rack.old) }
 {
-    let n = fitting(packed, rack.len());
-    let disks = packed.disks;
-    let mut i: usize = 0;
-    while i < n {
-        rack[i] = entry_for(disks[i]);
-        i = i + 1;
+    let count = fitting(packed, rack.len());
+    for (i, number) in packed.disks[..count].iter().enumerate() {
+        rack[i] = entry_for(*number);
     }
 }
