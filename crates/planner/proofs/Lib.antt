@@ -1,5 +1,6 @@
 pub mod Cuts
 pub mod Ascending
+pub mod Insertion
 pub mod Places
 pub mod SortedKeys
 pub mod ShelfOrder
@@ -27,6 +28,5 @@ pub mod ShelfTables
 pub mod ShelfSteps
 pub mod KeyRuns
 pub mod LeftFilms
-pub mod KeysAgain
 pub mod Answered
 pub mod Fulfilled

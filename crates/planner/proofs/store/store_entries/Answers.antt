@@ -16,19 +16,17 @@ stored_more n xs old now i v e is h k = ap₂ (λ (l : List ℕ) (w : ℕ). set 
 
 pub loop-place-preserved : goal.loop-place-preserved
 loop-place-preserved c =
-    let entries : List ℕ = (let a = c.args in entries_of a.keys.now a.start a.size a.over) in
+    let entries : List ℕ = (let a = c.args in entries_of a.run.now a.over) in
     let new : List ℕ = padded c.args.places entries in
-    let all : length new ≡ c.args.places = (let a = c.args in padded_length a.places entries (omega (arith, entries_length a.keys.now a.start a.size c.requires.size_in_bounds.0 a.over))) in
-    let place = c.loop-place.place in (
-      omega arith,
-      stored_more c.args.places entries c.args.table.now c.loop-place.table place c.entry_at.result
-          c.loop-place.invariant.1 c.entry_at.ensures (omega (arith, all)) (omega arith),
-    )
+    let all : length new ≡ c.args.places = (let a = c.args in padded_length a.places entries (omega (arith, entries_length a.run.now a.over))) in
+    let place = c.loop-place.place in
+    stored_more c.args.places entries c.args.table.now c.loop-place.table place c.entry_at.result
+          c.loop-place.invariant c.entry_at.ensures (omega (arith, all)) (omega arith)
 
 pub returns : goal.returns
 returns c =
-    let entries : List ℕ = (let a = c.args in entries_of a.keys.now a.start a.size a.over) in
+    let entries : List ℕ = (let a = c.args in entries_of a.run.now a.over) in
     let new : List ℕ = padded c.args.places entries in
-    let all : length new ≡ c.args.places = (let a = c.args in padded_length a.places entries (omega (arith, entries_length a.keys.now a.start a.size c.requires.size_in_bounds.0 a.over))) in
-    c.loop-place.invariant.1
+    let all : length new ≡ c.args.places = (let a = c.args in padded_length a.places entries (omega (arith, entries_length a.run.now a.over))) in
+    c.loop-place.invariant
     ∙ overwritten_all new c.args.table.now c.loop-place.place (omega (arith, all))

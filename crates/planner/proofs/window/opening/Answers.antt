@@ -1,17 +1,18 @@
 -- `planner::window::opening` meets its contract. The invariant: the films so far sum to less than the load, and the search goes on behind them.
 use native.Mathlib.Omega.{arith}
+use lib.ListN.{length-take}
 use Rattle.planner.proofs.Openings.{openings_bounded, openings_pass, openings_find}
 use Rattle.planner.proofs.window.opening.Goals as goal
 
 pub overflow_add-sum : goal.overflow_add-sum
-overflow_add-sum c = omega (arith, openings_bounded c.requires.0 c.loop-count.invariant c.amount-sum.ensures (omega arith) c.requires.3)
+overflow_add-sum c = omega (arith, openings_bounded c.loop-passed.invariant c.amount-sum.ensures (omega (arith, length-take c.min-most.result c.args.keys.now)) c.requires.2)
 
-pub returns-then-load-sum : goal.returns-then-load-sum
-returns-then-load-sum c =
-    openings_find c.requires.0 c.loop-count.invariant
-    c.amount-sum.ensures (omega arith) (omega arith)
+pub returns-then-sum-load : goal.returns-then-sum-load
+returns-then-sum-load c =
+    openings_find c.loop-passed.invariant
+    c.amount-sum.ensures (omega (arith, length-take c.min-most.result c.args.keys.now)) (omega arith)
 
-pub loop-count-preserved : goal.loop-count-preserved
-loop-count-preserved c =
-    openings_pass c.requires.0 c.loop-count.invariant
-    c.amount-sum.ensures (omega arith) (omega arith)
+pub loop-passed-preserved : goal.loop-passed-preserved
+loop-passed-preserved c =
+    openings_pass c.loop-passed.invariant
+    c.amount-sum.ensures (omega (arith, length-take c.min-most.result c.args.keys.now)) (omega arith)

@@ -9,7 +9,7 @@ use Rattle.planner.proofs.window.slide.Goals as goal
 pub overflow_sub-sum : goal.overflow_sub-sum
 overflow_sub-sum c =
     let first : (item_of (get_or c.args.keys.now c.loop-start.start 0)).amount ≤ c.loop-start.sum =
-    slides_first c.requires.n_in_bounds.0 c.loop-start.invariant c.requires.n_in_bounds.1
+    slides_first c.loop-start.invariant c.requires.in_range.0
     (omega arith) in
     omega (arith, c.amount.ensures)
 
@@ -17,16 +17,16 @@ pub overflow_add-sum : goal.overflow_add-sum
 overflow_add-sum c =
     omega (
       arith,
-      slides_bounded c.requires.n_in_bounds.0 c.loop-start.invariant c.amount.ensures c.amount-in-loop-start.ensures c.requires.n_in_bounds.1 (omega arith)
-          c.requires.n_in_bounds.3,
+      slides_bounded c.loop-start.invariant c.amount.ensures c.amount-in-loop-start.ensures c.requires.in_range.0 (omega arith)
+          c.requires.in_range.2,
     )
 
 pub loop-start-preserved : goal.loop-start-preserved
-loop-start-preserved c = slides_pass c.requires.n_in_bounds.0 c.loop-start.invariant c.amount.ensures c.amount-in-loop-start.ensures c.requires.n_in_bounds.1 (omega arith) (omega arith)
+loop-start-preserved c = slides_pass c.loop-start.invariant c.amount.ensures c.amount-in-loop-start.ensures c.requires.in_range.0 (omega arith) (omega arith)
 
 pub returns-then-load-sum : goal.returns-then-load-sum
 returns-then-load-sum c =
     record {
-      size_value = slides_find c.requires.n_in_bounds.0 c.loop-start.invariant c.amount.ensures c.amount-in-loop-start.ensures c.requires.n_in_bounds.1 (omega arith) (omega arith);
-      sum_value = slides_find_sum c.requires.n_in_bounds.0 c.loop-start.invariant c.amount.ensures c.amount-in-loop-start.ensures c.requires.n_in_bounds.1 (omega arith);
+      size_value = slides_find c.loop-start.invariant c.amount.ensures c.amount-in-loop-start.ensures c.requires.in_range.0 (omega arith) (omega arith);
+      sum_value = slides_find_sum c.loop-start.invariant c.amount.ensures c.amount-in-loop-start.ensures c.requires.in_range.0 (omega arith);
     }
