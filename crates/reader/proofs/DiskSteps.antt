@@ -1,9 +1,9 @@
 -- The loop over the disk lines: what holds before a line holds again behind it, or the line is refused.
 use mathlib.Core.Path.{◌≡◌, sym, ap, ap₂, subst, ◌∙◌}
-use mathlib.Core.Bool.{true, false}
 use mathlib.Core.List.{List, [], ◌∷◌, ◌++◌, map}
 use Prim.Native.Nat.{ℕ, ◌+◌, ◌-◌, ◌≤◌, ◌<◌}
 use native.Mathlib.Omega.{arith}
+use Rattle.std.specs.Prelude.{Some, None, Err}
 use lib.ListN.{length, take, drop, set, length-set, length-take, length-drop, length-map, length-replicate}
 use borrow.Rule.Slice.PartMut.{put_mid, same_len_mid}
 use Rattle.placement.specs.Items.{Item}
@@ -11,30 +11,26 @@ use Rattle.placement.specs.Copies.{Copy, unmarked, copy_of}
 use Rattle.placement.specs.Rack.{Disk, most_disks}
 use Rattle.placement.specs.Plan.{disk_accepted, marks_accepted, copies_accepted}
 use Rattle.placement.specs.Held.{front}
-use Rattle.placement.proofs.Conjunctions.{both_true, false_true}
+use Rattle.placement.proofs.Conjunctions.{both_true}
 use Rattle.placement.proofs.Racks.{accepted_disks}
 use Rattle.placement.proofs.Offsets.{disk_at}
 use Rattle.plan_text.specs.Text.{disk_head}
-use Rattle.plan_text.specs.Parse.{Parse, next}
+use Rattle.plan_text.specs.Parse.{Parse}
 use Rattle.plan_text.specs.Reading.{line, copies_body, read_disks}
 use Rattle.plan_text.specs.Capped.{saturated}
 use Rattle.placement.proofs.Formed.{disk_load}
 use Rattle.placement.proofs.MarkedCopies.{copied_total}
-use Rattle.reader.specs.declared.cursor.Cursor.{Cursor}
 use Rattle.reader.specs.declared.line.PairsLine.{PairsLine}
-use Rattle.reader.specs.Cursor.{place, valued}
 use Rattle.reader.specs.Line.{DiskRead}
 use Rattle.reader.specs.Disks.{Filled, DisksReady, DisksRead, prefixed}
-use Rattle.reader.proofs.Pieces.{line_parsed, line_refused}
 use Rattle.reader.proofs.RackDisks.{upto, onward, next_first, places_room, load_most}
 use Rattle.reader.proofs.DiskTables.{filled_more, served_end, copied_end}
 use Rattle.reader.proofs.DiskReading.{disks_more, disks_refused}
 use Rattle.reader.proofs.DisksSoFar.{SoFar}
 
-module _ {text : List ℕ} {rack : List Disk} {start : Cursor} {copies₀ counts₀ : List ℕ}
-    (ready : DisksReady start rack copies₀ counts₀) where
-  module _ {copies counts : List ℕ} {here : Cursor} {sum from i k : ℕ} {d : Disk}
-      (now : SoFar text rack start copies₀ counts₀ copies counts here sum from i) (less : i < length rack) (is : disk_at rack i ≡ d)
+module _ {text : List ℕ} {rack : List Disk} {copies₀ counts₀ : List ℕ} (ready : DisksReady rack copies₀ counts₀) where
+  module _ {copies counts here : List ℕ} {sum from i k : ℕ} {d : Disk}
+      (now : SoFar text rack copies₀ counts₀ copies counts here sum from i) (less : i < length rack) (is : disk_at rack i ≡ d)
       (slots_are : k ≡ d.slots) where
     abbrev size : ℕ
     size = (from + k) - from
@@ -52,7 +48,30 @@ module _ {text : List ℕ} {rack : List Disk} {start : Cursor} {copies₀ counts
     pub part_length : length part ≡ k
     part_length = omega (arith, length-take size (drop from copies), length-drop from copies, now.copies_length, room)
 
-    module _ {r : PairsLine} {part' : List ℕ} (read : DiskRead (i + 1) d text here part part' r) where
+    -- The number of disks before it.
+    number : length (take i rack) ≡ i
+    number = omega (arith, length-take i rack, less)
+
+    abbrev body : ℕ → List ℕ → Parse (List Copy)
+    body n t = line (copies_body saturated (disk_head (i + 1)) n) (copies_accepted d) t
+
+    same_body : body (length part) here ≡ body d.slots here
+    same_body = ap (λ (n : ℕ). body n here) (part_length ∙ slots_are)
+
+    -- The line is refused.
+    pub so_far_stopped :
+        (rest copies' part' : List ℕ) → DiskRead (i + 1) d here rest part part' None
+        → DisksRead text rest rack copies₀ counts₀ copies' counts (Err (record { lines = i }))
+    so_far_stopped rest copies' part' read = record {
+      fit = tt;
+      few = now.few;
+      stopped =
+          now.reads
+          ∙ disks_refused (map (map copy_of) now.layout) here (drop i rack) i sum d (drop (i + 1) rack)
+          (onward rack i d less is) (length-map now.layout (map copy_of) ∙ now.filled.number ∙ number) (sym (read.reads ∙ same_body));
+    }
+
+    module _ {rest part' : List ℕ} {r : PairsLine} (read : DiskRead (i + 1) d here rest part part' (Some r)) where
       -- The halves that the part holds, and their copies.
       abbrev x : List Item
       x = front r.count part'
@@ -60,68 +79,40 @@ module _ {text : List ℕ} {rack : List Disk} {start : Cursor} {copies₀ counts
       abbrev mine : List Copy
       mine = map copy_of x
 
-      abbrev body : List ℕ → Parse (List Copy)
-      body t = line (copies_body saturated (disk_head (i + 1)) d.slots) (copies_accepted d) t
-
-      valued_line : valued mine text r.after ≡ next (place text here) (λ u t. body t)
-      valued_line =
-          read.reads
-          ∙ ap (λ (n : ℕ). next (place text here) (λ u t. line (copies_body saturated (disk_head (i + 1)) n) (copies_accepted d) t))
-          (part_length ∙ slots_are)
-
-      -- The number of disks before it.
-      number : length (take i rack) ≡ i
-      number = omega (arith, length-take i rack, less)
-
-      -- The line is refused.
-      pub so_far_stopped :
-          (copies' : List ℕ) → r.after.fits ≡ false
-          → DisksRead text start rack copies₀ counts₀ copies' counts (record { lines = i; served = sum; after = r.after })
-      so_far_stopped copies' e = record {
-        few = now.few;
-        fit = λ f. false_true (sym e ∙ f);
-        stopped = λ f.
-            now.reads
-            ∙ disks_refused (map (map copy_of) now.layout) (drop here.at text) (drop i rack) i sum d (drop (i + 1) rack)
-            (onward rack i d less is) (length-map now.layout (map copy_of) ∙ now.filled.number ∙ number) (line_refused text mine here r.after body valued_line now.fits e);
-      }
-
       -- What the disk's copies sum to.
-      pub small : r.after.fits ≡ true → r.sum ≤ 65535
-      small e =
+      pub small : r.sum ≤ 65535
+      small =
           omega (
             arith,
-            read.summed,
+            read.held.summed,
             copied_total x,
-            disk_load d (map unmarked mine) (both_true (disk_accepted d (map unmarked mine)) (marks_accepted mine) (read.passed e)).0,
+            disk_load d (map unmarked mine) (both_true (disk_accepted d (map unmarked mine)) (marks_accepted mine) read.held.passed).0,
             load_most rack i d less is ready.accepted,
           )
 
       -- The line fits.
       pub so_far_more :
-          r.after.fits ≡ true → length part' ≡ k
-          → SoFar text rack start copies₀ counts₀ (put_mid from size copies part') (set counts i r.count) r.after (sum + r.sum)
-          (from + k) (i + 1)
-      so_far_more e wide = record {
-        fits = e;
+          length part' ≡ k
+          → SoFar text rack copies₀ counts₀ (put_mid from size copies part') (set counts i r.count) rest (sum + r.sum) (from + k) (i + 1)
+      so_far_more wide = record {
         few = omega (arith, less);
         first = omega (arith, now.first, slots_are, next_first rack i d less is);
         copies_length = same_len_mid from size copies part' (wide ∙ sym part_length) ∙ now.copies_length;
         counts_length = length-set counts i r.count ∙ now.counts_length;
-        bounded = omega (arith, now.bounded, small e);
+        bounded = omega (arith, now.bounded, small);
         layout = now.layout ++ (x ∷ []);
         filled =
             subst (λ (ds : List Disk). Filled ds (now.layout ++ (x ∷ [])) copies₀ counts₀ (put_mid from size copies part') (set counts i r.count))
             (sym (upto rack i d less is))
             (filled_more (take i rack) now.layout d r.count from size i 2048 copies₀ counts₀ copies counts part'
             now.filled ready.own_copies now.first (omega (arith, slots_are)) (omega (arith, slots_are, room)) (sym number)
-            (omega (arith, few_disks_lem, ap length ready.own_counts, length-replicate {A = ℕ} most_disks 0)) read.stored (wide ∙ slots_are));
-        sum_is = omega (arith, now.sum_is, read.summed, served_end now.layout x);
+            (omega (arith, few_disks_lem, ap length ready.own_counts, length-replicate {A = ℕ} most_disks 0)) read.held.stored (wide ∙ slots_are));
+        sum_is = omega (arith, now.sum_is, read.held.summed, served_end now.layout x);
         reads =
             now.reads
-            ∙ disks_more (map (map copy_of) now.layout) (drop here.at text) (drop i rack) i sum d (drop (i + 1) rack)
-            (onward rack i d less is) mine (drop r.after.at text) (line_parsed text mine here r.after body valued_line now.fits e)
+            ∙ disks_more (map (map copy_of) now.layout) here (drop i rack) i sum d (drop (i + 1) rack)
+            (onward rack i d less is) mine rest (sym (read.reads ∙ same_body))
             ∙ ap₂
-            (λ (l : List (List Copy)) (s : ℕ). prefixed l (read_disks saturated (drop (i + 1) rack) ((i + 1) + 1) s (drop r.after.at text)))
-            (sym (copied_end now.layout x)) (ap (λ (n : ℕ). sum + n) (copied_total x ∙ sym read.summed));
+            (λ (l : List (List Copy)) (s : ℕ). prefixed l (read_disks saturated (drop (i + 1) rack) ((i + 1) + 1) s rest))
+            (sym (copied_end now.layout x)) (ap (λ (n : ℕ). sum + n) (copied_total x ∙ sym read.held.summed));
       }

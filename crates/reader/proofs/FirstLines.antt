@@ -1,9 +1,10 @@
 -- The first line by its form: equal disks, or a mixed line where the text begins with none of equal disks.
-use mathlib.Core.Path.{◌≡◌, refl, sym, ap, ◌∙◌}
-use mathlib.Core.Bool.{Bool, true, false, not, ◌&&◌}
+use mathlib.Core.Path.{◌≡◌, sym, ap, ◌∙◌}
+use mathlib.Core.Bool.{Bool, false, not, ◌&&◌}
 use mathlib.Core.List.{List, map}
 use Prim.Native.Nat.{ℕ, ◌≤◌}
 use native.Mathlib.Omega.{arith}
+use Rattle.std.specs.Prelude.{Option, Some, None}
 use lib.ListN.{length, take, drop, replicate, length-append, length-replicate}
 use Rattle.refusal.specs.Verdict.{Verdict, given, refused}
 use Rattle.refusal.proofs.Verdicts.{and_then}
@@ -19,16 +20,10 @@ use Rattle.placement.proofs.Chains.{rack_given_lem, rack_passes}
 use Rattle.placement.proofs.Written.{written_front}
 use Rattle.plan_text.specs.Text.{mixed_head}
 use Rattle.plan_text.specs.Parse.{Parse, parsed, unparsed, next, or_else}
-use Rattle.plan_text.specs.Reading.{Sizes, line, rack_body, rack_in, sizes_accepted, pairs_body, item_disk, mixed_accepted, equal_read, mixed_read}
+use Rattle.plan_text.specs.Reading.{Sizes, line, rack_body, rack_in, sizes_accepted, pairs_body, item_disk, mixed_accepted, mixed_read, rack_read}
 use Rattle.plan_text.specs.Capped.{saturated}
 use Rattle.plan_text.proofs.Limits.{sizes_disks}
-use Rattle.reader.specs.declared.cursor.Cursor.{Cursor}
-use Rattle.reader.specs.declared.line.RackLine.{RackLine}
-use Rattle.reader.specs.declared.first.FirstLine.{FirstLine}
-use Rattle.reader.specs.Cursor.{place, valued}
-use Rattle.reader.specs.Line.{sizes, sizes_of}
 use Rattle.reader.specs.First.{MixedRead, FirstRead}
-use Rattle.reader.proofs.Pieces.{next_assoc, line_parsed, line_refused, going}
 use Rattle.reader.proofs.PlanParts.{line_passed}
 use Rattle.reader.proofs.PackedDisks.{same_disks, items_disks}
 
@@ -58,62 +53,50 @@ module _ (s : List ℕ) (v : Verdict (Unit {0})) (e : v ≡ rack_judged (disks_i
       ∙ second_decides (rack_accepted (disks_in s)) (not (all_equal (disks_in s))) (rack_given_lem (disks_in s) (given tt) tt (sym e ∙ passed)).0
       ∙ sym (mixed_packed s)
 
--- The beginning of a text.
-abbrev pub start : Cursor
-start = record { at = 0; fits = true }
+-- The line of equal disks fits.
+module _ (text rest : List ℕ) (z : Sizes) (said : parsed z rest ≡ line (rack_body saturated) sizes_accepted text) where
+  pub equal_few : z.disks ≤ most_disks
+  equal_few = sizes_disks z (line_passed (rack_body saturated) sizes_accepted text z rest (sym said))
 
-module _ (text : List ℕ) (equal : RackLine)
-    (read : sizes_of text equal ≡ next (place text start) (λ u t. line (rack_body saturated) sizes_accepted t)) where
-  abbrev z : Sizes
-  z = sizes equal.rack
+  pub equal_first :
+      (number : ℕ) (rack rack' : List ℕ) → disk_in number ≡ disk z.slots z.streams → rack' ≡ written (replicate z.disks number) rack
+      → FirstRead text rest rack' (Some z.disks)
+  equal_first number rack rack' is filled = record {
+    reads =
+        ap (λ (ds : List Disk). parsed ds rest) disks
+        ∙ ap (λ (p : Parse Sizes). or_else (next p (λ y t. parsed (rack_in y) t)) (mixed_read saturated text)) said;
+    few =
+        omega (
+          arith,
+          ap length filled,
+          length-append (replicate z.disks number) (drop (length (replicate z.disks number)) rack),
+          length-replicate z.disks number,
+        );
+  }
+    where
+      disks : disks_in (take z.disks rack') ≡ rack_in z
+      disks =
+          ap (λ (l : List ℕ). disks_in (take z.disks l)) filled
+          ∙ ap disks_in (written_front (replicate z.disks number) rack z.disks (length-replicate z.disks number))
+          ∙ same_disks z.disks number
+          ∙ ap (λ (d : Disk). replicate z.disks d) is
 
-  -- The line of equal disks fits.
-  module _ (fits : equal.after.fits ≡ true) where
-    said : line (rack_body saturated) sizes_accepted text ≡ parsed z (drop equal.after.at text)
-    said = line_parsed text z start equal.after (line (rack_body saturated) sizes_accepted) read refl fits
+-- It does not fit, and a mixed line decides.
+module _ (text rest rack rack' : List ℕ) (stops : unparsed ≡ line (rack_body saturated) sizes_accepted text)
+    (wide : length rack' ≡ length rack) (places : length rack ≡ most_disks) where
+  abbrev mixed_of : Parse (List Item) → Parse (List Disk)
+  mixed_of p = next p (λ xs t. parsed (map item_disk xs) t)
 
-    pub equal_few : equal.rack.disks ≤ most_disks
-    equal_few = sizes_disks z (line_passed (rack_body saturated) sizes_accepted text z (drop equal.after.at text) said)
+  first_is : (p : Parse (List Item)) → p ≡ line (pairs_body saturated mixed_head (length rack)) mixed_accepted text
+      → mixed_of p ≡ rack_read saturated text
+  first_is p e =
+      ap mixed_of e
+      ∙ ap (λ (n : ℕ). mixed_of (line (pairs_body saturated mixed_head n) mixed_accepted text)) places
+      ∙ ap (λ (p : Parse Sizes). or_else (next p (λ y t. parsed (rack_in y) t)) (mixed_read saturated text)) stops
 
-    pub equal_first :
-        (number : ℕ) (rack rack' : List ℕ) → disk_in number ≡ disk z.slots z.streams → rack' ≡ written (replicate z.disks number) rack
-        → FirstRead text rack' (record { disks = z.disks; after = equal.after })
-    equal_first number rack rack' is filled = record {
-      reads =
-          ap (λ (ds : List Disk). valued ds text equal.after) disks
-          ∙ going text equal.after (λ u t. parsed (rack_in z) t) fits
-          ∙ sym (ap (λ (p : Parse Sizes). or_else (next p (λ y t. parsed (rack_in y) t)) (mixed_read saturated text)) said);
-      few =
-          omega (
-            arith,
-            ap length filled,
-            length-append (replicate z.disks number) (drop (length (replicate z.disks number)) rack),
-            length-replicate z.disks number,
-          );
-    }
-      where
-        disks : disks_in (take z.disks rack') ≡ rack_in z
-        disks =
-            ap (λ (l : List ℕ). disks_in (take z.disks l)) filled
-            ∙ ap disks_in (written_front (replicate z.disks number) rack z.disks (length-replicate z.disks number))
-            ∙ same_disks z.disks number
-            ∙ ap (λ (d : Disk). replicate z.disks d) is
-
-  -- It does not fit, and a mixed line decides.
-  module _ (stops : equal.after.fits ≡ false) (rack rack' : List ℕ) (mixed : FirstLine) (wide : length rack' ≡ length rack)
-      (places : length rack ≡ most_disks) (mixed_is : MixedRead text start rack rack' mixed) where
-    none : equal_read saturated text ≡ unparsed
-    none =
-        ap (λ (p : Parse Sizes). next p (λ y t. parsed (rack_in y) t))
-        (line_refused text z start equal.after (line (rack_body saturated) sizes_accepted) read refl stops)
-
-    pub mixed_first : FirstRead text rack' mixed
-    mixed_first = record {
-      reads =
-          ap (λ (ds : List Disk). valued ds text mixed.after) (sym (items_disks (take mixed.disks rack')))
-          ∙ sym (next_assoc (place text mixed.after) (λ u t. parsed (front mixed.disks rack') t) (λ xs t. parsed (map item_disk xs) t))
-          ∙ ap (λ (p : Parse (List Item)). next p (λ xs t. parsed (map item_disk xs) t)) mixed_is.reads
-          ∙ ap (λ (n : ℕ). next (line (pairs_body saturated mixed_head n) mixed_accepted text) (λ xs t. parsed (map item_disk xs) t)) places
-          ∙ sym (ap (λ (p : Parse (List Disk)). or_else p (mixed_read saturated text)) none);
-      few = omega (arith, mixed_is.few, wide);
-    }
+  pub mixed_first : (r : Option ℕ) → MixedRead text rest rack rack' r → FirstRead text rest rack' r
+  mixed_first (Some n) is = record {
+    reads = ap (λ (ds : List Disk). parsed ds rest) (sym (items_disks (take n rack'))) ∙ first_is (parsed (front n rack') rest) is.reads;
+    few = omega (arith, is.few, wide);
+  }
+  mixed_first None is = record { reads = first_is unparsed is.reads; few = tt }

@@ -1,4 +1,3 @@
-pub mod Classes
 pub mod Pieces
 pub mod Bytes
 pub mod PairLists
@@ -7,8 +6,6 @@ pub mod CopyLists
 pub mod StoredPairs
 pub mod Lines
 pub mod PairLines
-pub mod Racks
-pub mod TailReading
 pub mod DiskReading
 pub mod DiskTables
 pub mod DisksSoFar

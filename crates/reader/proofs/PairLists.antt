@@ -1,35 +1,18 @@
--- Laws of the start of a pair, and of pairs or copies read one after the other into a slice.
-use mathlib.Core.Path.{◌≡◌, refl, sym, ◌∙◌}
+-- Laws of pairs or copies read one after the other into a slice.
+use mathlib.Core.Path.{◌≡◌, refl, sym, ap, ◌∙◌}
 use mathlib.Core.Bool.{Bool, true, false, cond}
 use mathlib.Core.List.{List, [], ◌∷◌, ◌++◌, append_assoc, append-nil}
-use Prim.Native.Nat.{ℕ, zero, suc}
+use Prim.Native.Nat.{ℕ, zero, suc, ◌+◌, ◌-◌, ◌<◌}
+use native.Mathlib.Omega.{arith}
 use lib.Dec.{eqb}
-use Rattle.placement.specs.Items.{Item, item}
-use Rattle.plan_text.specs.Text.{space, opened, closed}
-use Rattle.plan_text.specs.Parse.{Parse, parsed, unparsed, next, byte, number, pair_start, end_or, spaced_read}
-use Rattle.plan_text.specs.Capped.{saturated}
+use lib.ListN.{length}
+use Rattle.std.specs.Prelude.{Option, Some, None}
+use Rattle.placement.specs.Items.{Item}
+use Rattle.placement.specs.Held.{front}
+use Rattle.plan_text.specs.Text.{space, closed}
+use Rattle.plan_text.specs.Parse.{Parse, parsed, unparsed, next, byte, end_or, spaced_read}
 use Rattle.plan_text.proofs.Pieces.{unparsed_parsed, byte_sound}
-use Rattle.reader.specs.declared.cursor.Cursor.{Cursor}
-use Rattle.reader.specs.declared.number.Number.{Number}
-use Rattle.reader.specs.Cursor.{place, valued, number_read}
-use Rattle.reader.proofs.Pieces.{next_same, piece, piece_valued}
-
--- The start of a pair, piece by piece.
-pub start_read :
-    (text : List ℕ) (c a b : Cursor) (f v : Number)
-    → place text a ≡ next (place text c) (λ u t. byte opened t)
-    → number_read text f ≡ next (place text a) (λ u t. number saturated t)
-    → place text b ≡ next (place text f.after) (λ u t. byte space t)
-    → number_read text v ≡ next (place text b) (λ u t. number saturated t)
-    → valued (item f.value v.value) text v.after ≡ next (place text c) (λ u t. pair_start saturated t)
-start_read text c a b f v h₁ h₂ h₃ h₄ =
-    piece_valued v.value (place text v.after) (place text b) (number saturated) (λ n t. parsed (item f.value n) t) h₄
-    ∙ piece (place text b) (place text f.after) (byte space)
-    (λ t. next (number saturated t) (λ n t. parsed (item f.value n) t)) h₃
-    ∙ piece_valued f.value (place text f.after) (place text a) (number saturated)
-    (λ m t. next (byte space t) (λ u s. next (number saturated s) (λ n t. parsed (item m n) t))) h₂
-    ∙ piece (place text a) (place text c) (byte opened)
-    (λ t. next (number saturated t) (λ m t. next (byte space t) (λ u s. next (number saturated s) (λ n t. parsed (item m n) t)))) h₁
+use Rattle.reader.specs.Pairs.{Stored, entry_read, PairsRead}
 
 -- The closing bracket, where no pair follows.
 abbrev pub ending : List ℕ → Parse (List Item)
@@ -58,7 +41,7 @@ end_only more (b ∷ bs) e = go (eqb b closed) (eqb b space) e
 -- Pairs or copies, each read by `one`.
 module _ (one : List ℕ → Parse Item) where
   -- With no place left, only the end follows.
-  pub spaced_none : (t : List ℕ) → spaced_read one 0 t ≡ ending t
+  spaced_none : (t : List ℕ) → spaced_read one 0 t ≡ ending t
   spaced_none [] = refl
   spaced_none (b ∷ bs) = go (eqb b closed) (eqb b space)
     where
@@ -68,53 +51,91 @@ module _ (one : List ℕ → Parse Item) where
       go false false = refl
 
   -- Where no space follows, only the end does.
-  pub spaced_last :
-      (m : ℕ) (p : Parse (Unit {0})) → next p (λ u t. byte space t) ≡ unparsed
-      → next p (λ u t. spaced_read one m t) ≡ next p (λ u t. ending t)
-  spaced_last zero (parsed tt t) e = end_only (λ s. unparsed) t e
-  spaced_last (suc m) (parsed tt t) e =
-      end_only (λ s. next (one s) (λ x after. next (spaced_read one m after) (λ xs end. parsed (x ∷ xs) end))) t e
-  spaced_last m unparsed e = refl
+  spaced_last : (m : ℕ) (t : List ℕ) → byte space t ≡ unparsed → spaced_read one m t ≡ ending t
+  spaced_last zero t e = end_only (λ s. unparsed) t e
+  spaced_last (suc m) t e = end_only (λ s. next (one s) (λ x after. next (spaced_read one m after) (λ xs end. parsed (x ∷ xs) end))) t e
 
   -- The pairs so far, before what the rest reads.
-  abbrev pub reads_on : List Item → ℕ → Parse (Unit {0}) → Parse (List Item)
-  reads_on before m p = next p (λ u t. next (spaced_read one m t) (λ xs end. parsed (before ++ xs) end))
+  abbrev pub reads_on : List Item → ℕ → List ℕ → Parse (List Item)
+  reads_on before m t = next (spaced_read one m t) (λ xs end. parsed (before ++ xs) end)
 
-  pub reads_on_start : (m : ℕ) (p : Parse (Unit {0})) → reads_on [] m p ≡ next p (λ u t. spaced_read one m t)
-  reads_on_start m p =
-      next_same p (λ u t. next (spaced_read one m t) (λ xs end. parsed xs end)) (λ u t. spaced_read one m t) (λ u t. same (spaced_read one m t))
+  pub reads_on_start : (m : ℕ) (t : List ℕ) → reads_on [] m t ≡ spaced_read one m t
+  reads_on_start m t = same (spaced_read one m t)
     where
       same : (q : Parse (List Item)) → next q (λ xs end. parsed xs end) ≡ q
       same (parsed xs end) = refl
       same unparsed = refl
 
-  -- One pair more.
+  -- A space leads to one pair more.
   pub reads_on_more :
-      (before : List Item) (m : ℕ) (x : Item) (p q r : Parse (Unit {0})) (s : List ℕ)
-      → q ≡ parsed tt s → q ≡ next p (λ u t. byte space t) → next r (λ u t. parsed x t) ≡ next q (λ u t. one t)
-      → reads_on (before ++ (x ∷ [])) m r ≡ reads_on before (suc m) p
-  reads_on_more before m x unparsed q r s here spaced read = unparsed_parsed (sym spaced ∙ here)
-  reads_on_more before m x (parsed tt t) q r s here spaced read =
-      let first : next r (λ u t. parsed x t) ≡ one s = rw here at read in
-      rw (byte_sound space t s (sym spaced ∙ here), ← first) (more r)
+      (before : List Item) (m : ℕ) (t s : List ℕ) → byte space t ≡ parsed tt s
+      → reads_on before (suc m) t ≡ next (one s) (λ x r. reads_on (before ++ (x ∷ [])) m r)
+  reads_on_more before m t s e = rw (byte_sound space t s e) (more (one s))
     where
-      further : (z : Parse (List Item)) → next z (λ xs end. parsed ((before ++ (x ∷ [])) ++ xs) end)
-          ≡ next (next z (λ xs end. parsed (x ∷ xs) end)) (λ xs end. parsed (before ++ xs) end)
-      further (parsed xs end) = rw append_assoc
-      further unparsed = refl
+      further : (x : Item) (z : Parse (List Item)) → next (next z (λ xs end. parsed (x ∷ xs) end)) (λ xs end. parsed (before ++ xs) end)
+          ≡ next z (λ xs end. parsed ((before ++ (x ∷ [])) ++ xs) end)
+      further x (parsed xs end) = rw append_assoc
+      further x unparsed = refl
 
-      more : (r : Parse (Unit {0})) → reads_on (before ++ (x ∷ [])) m r
-          ≡ next (next (next r (λ u t. parsed x t)) (λ y t. next (spaced_read one m t) (λ xs end. parsed (y ∷ xs) end))) (λ xs end. parsed (before ++ xs) end)
-      more (parsed tt t) = further (spaced_read one m t)
+      more : (p : Parse Item)
+          → next (next p (λ y t. next (spaced_read one m t) (λ xs end. parsed (y ∷ xs) end))) (λ xs end. parsed (before ++ xs) end)
+          ≡ next p (λ x r. reads_on (before ++ (x ∷ [])) m r)
+      more (parsed x r) = further x (spaced_read one m r)
       more unparsed = refl
 
+  ended : (before : List Item) (z : Parse (Unit {0})) → next (closing z) (λ xs end. parsed (before ++ xs) end) ≡ next z (λ u s. parsed before s)
+  ended before (parsed tt s) = rw append-nil
+  ended before unparsed = refl
+
   -- The closing bracket ends the pairs, where no place is left or no space follows.
-  pub reads_on_end :
-      (before : List Item) (m : ℕ) (p q : Parse (Unit {0})) → next p (λ u t. spaced_read one m t) ≡ next p (λ u t. ending t)
-      → q ≡ next p (λ u t. byte closed t) → next q (λ u t. parsed before t) ≡ reads_on before m p
-  reads_on_end before m unparsed q last e = rw e
-  reads_on_end before m (parsed tt t) q last e = rw (e, last) (none (byte closed t))
-    where
-      none : (z : Parse (Unit {0})) → next z (λ u s. parsed before s) ≡ next (closing z) (λ xs end. parsed (before ++ xs) end)
-      none (parsed tt s) = rw append-nil
-      none unparsed = refl
+  pub reads_on_none : (before : List Item) (t : List ℕ) → reads_on before 0 t ≡ next (byte closed t) (λ u s. parsed before s)
+  reads_on_none before t = ap (λ (p : Parse (List Item)). next p (λ xs end. parsed (before ++ xs) end)) (spaced_none t) ∙ ended before (byte closed t)
+
+  pub reads_on_last :
+      (before : List Item) (m : ℕ) (t : List ℕ) → byte space t ≡ unparsed → reads_on before m t ≡ next (byte closed t) (λ u s. parsed before s)
+  reads_on_last before m t e =
+      ap (λ (p : Parse (List Item)). next p (λ xs end. parsed (before ++ xs) end)) (spaced_last m t e) ∙ ended before (byte closed t)
+
+-- In the middle of a line of pairs or copies: n of them stand at the front of the entries, before what the bytes `here` say.
+module _ (marks : Bool) (text here entries now : List ℕ) (n : ℕ)
+    (so_far : reads_on (entry_read marks) (front n now) (length entries - n) here ≡ spaced_read (entry_read marks) (length entries) text) where
+  -- Neither a pair nor the end follows.
+  pub pairs_no_end :
+      (rest : List ℕ) (r : Option ℕ) → r ≡ None → byte space here ≡ unparsed → byte closed here ≡ unparsed → PairsRead marks text rest entries now r
+  pairs_no_end rest r is no_pair no_end = rw is (record {
+    reads = sym (sym so_far ∙ reads_on_last (entry_read marks) (front n now) (length entries - n) here no_pair ∙ ap (λ (p : Parse (Unit {0})). next p (λ u s. parsed (front n now) s)) no_end);
+    stored = tt;
+  })
+
+  -- The end follows.
+  pub pairs_end :
+      (rest : List ℕ) → byte space here ≡ unparsed → byte closed here ≡ parsed tt rest → Stored n entries now
+      → PairsRead marks text rest entries now (Some n)
+  pairs_end rest no_pair end stored = record {
+    reads = sym (sym so_far ∙ reads_on_last (entry_read marks) (front n now) (length entries - n) here no_pair ∙ ap (λ (p : Parse (Unit {0})). next p (λ u s. parsed (front n now) s)) end);
+    stored = stored;
+  }
+
+  -- A space follows.
+  module _ (s : List ℕ) (spaced : byte space here ≡ parsed tt s) (room : n < length entries) where
+    on : next (entry_read marks s) (λ x r. reads_on (entry_read marks) (front n now ++ (x ∷ [])) (length entries - (n + 1)) r)
+        ≡ spaced_read (entry_read marks) (length entries) text
+    on =
+        let m : length entries - n ≡ suc (length entries - (n + 1)) = omega arith in
+        sym (reads_on_more (entry_read marks) (front n now) (length entries - (n + 1)) here s spaced)
+        ∙ ap (λ (k : ℕ). reads_on (entry_read marks) (front n now) k here) (sym m)
+        ∙ so_far
+
+    -- It leads to no pair.
+    pub pairs_no_pair : (rest : List ℕ) (r : Option ℕ) → r ≡ None → entry_read marks s ≡ unparsed → PairsRead marks text rest entries now r
+    pairs_no_pair rest r is no_pair = rw is (record {
+      reads = sym (sym on ∙ ap (λ (p : Parse Item). next p (λ x r. reads_on (entry_read marks) (front n now ++ (x ∷ [])) (length entries - (n + 1)) r)) no_pair);
+      stored = tt;
+    })
+
+    -- It leads to one more.
+    pub pairs_more :
+        (x : Item) (rest : List ℕ) → entry_read marks s ≡ parsed x rest
+        → reads_on (entry_read marks) (front n now ++ (x ∷ [])) (length entries - (n + 1)) rest ≡ spaced_read (entry_read marks) (length entries) text
+    pairs_more x rest pair =
+        sym (ap (λ (p : Parse Item). next p (λ x r. reads_on (entry_read marks) (front n now ++ (x ∷ [])) (length entries - (n + 1)) r)) pair) ∙ on

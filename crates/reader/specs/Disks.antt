@@ -1,5 +1,5 @@
 -- What the lines of all disks are, where their copies stand in tables that were zero.
-use Rattle.std.specs.Prelude.{ℕ, ◌+◌, ◌≤◌, ◌≡◌, true, false, List, ◌++◌, map, length, drop}
+use Rattle.std.specs.Prelude.{ℕ, ◌+◌, ◌≤◌, ◌≡◌, true, List, ◌++◌, map, length, Result, IfOk, IfErr}
 use Rattle.placement.specs.Items.{Item}
 use Rattle.placement.specs.Copies.{Copy, copy_of}
 use Rattle.placement.specs.Rack.{Disk, all_slots, rack_accepted}
@@ -7,12 +7,10 @@ use Rattle.placement.specs.Method.{served}
 use Rattle.placement.specs.Tables.{own_tables, places, written}
 use Rattle.plan_text.specs.Reading.{Reading, whole, refused_after, Tail, read_disks, read_left}
 use Rattle.plan_text.specs.Capped.{saturated}
-use Rattle.reader.specs.declared.cursor.Cursor.{Cursor}
-use Rattle.reader.specs.declared.disks.DiskLines.{DiskLines}
+use Rattle.reader.specs.declared.answer.Misfit.{Misfit}
 
--- Tables of zeros for the largest rack, a rack that is accepted, and a cursor that has not stopped.
-pub record DisksReady (cursor : Cursor) (rack : List Disk) (copies counts : List ℕ) : Type 0 where
-  pub going : cursor.fits ≡ true
+-- Tables of zeros for the largest rack, and a rack that is accepted.
+pub record DisksReady (rack : List Disk) (copies counts : List ℕ) : Type 0 where
   pub accepted : rack_accepted rack ≡ true
   pub own_copies : copies ≡ own_tables.copies
   pub own_counts : counts ≡ own_tables.counts
@@ -29,19 +27,19 @@ pub record Filled (disks : List Disk) (layout : List (List Item)) (copies counts
   pub in_copies : copies' ≡ written (places disks layout) copies
   pub in_counts : counts' ≡ written (map length layout) counts
 
--- What a text says of all disks of a rack and behind them, from a position on.
-abbrev pub disks_at : List ℕ → Cursor → List Disk → Reading Tail
-disks_at text cursor rack = read_disks saturated rack 1 0 (drop cursor.at text)
+-- What a text says of all disks of a rack and behind them.
+abbrev pub disks_at : List ℕ → List Disk → Reading Tail
+disks_at text rack = read_disks saturated rack 1 0 text
 
 -- All disk lines fit: their copies, whose halves the tables hold, come before what the rest says.
-pub record DisksFit (text : List ℕ) (cursor : Cursor) (rack : List Disk) (copies counts copies' counts' : List ℕ) (r : DiskLines) : Type 0 where
+pub record DisksFit (text rest : List ℕ) (rack : List Disk) (copies counts copies' counts' : List ℕ) (sum : ℕ) : Type 0 where
   pub layout : List (List Item)
   pub filled : Filled rack layout copies counts copies' counts'
-  pub sum : r.served ≡ served layout
-  pub reads : disks_at text cursor rack ≡ prefixed (map (map copy_of) layout) (read_left saturated r.served (drop r.after.at text))
+  pub sum_is : sum ≡ served layout
+  pub reads : disks_at text rack ≡ prefixed (map (map copy_of) layout) (read_left saturated sum rest)
 
 -- The disk lines fit, or one of them is refused.
-pub record DisksRead (text : List ℕ) (cursor : Cursor) (rack : List Disk) (copies counts copies' counts' : List ℕ) (r : DiskLines) : Type 0 where
-  pub few : r.lines ≤ length rack
-  pub fit : r.after.fits ≡ true → DisksFit text cursor rack copies counts copies' counts' r
-  pub stopped : r.after.fits ≡ false → disks_at text cursor rack ≡ refused_after r.lines
+pub record DisksRead (text rest : List ℕ) (rack : List Disk) (copies counts copies' counts' : List ℕ) (r : Result ℕ Misfit) : Type 0 where
+  pub fit : IfOk r (λ sum. DisksFit text rest rack copies counts copies' counts' sum)
+  pub few : IfErr r (λ m. m.lines ≤ length rack)
+  pub stopped : IfErr r (λ m. disks_at text rack ≡ refused_after m.lines)

@@ -1,7 +1,7 @@
 // The classes of bytes.
 ghost use Rattle.std.specs.Prelude.{◌≡◌};
 ghost use Rattle.plan_text.specs.Parse.{is_digit};
-ghost use Rattle.reader.specs.Class.{class_of, digital, foreign};
+ghost use Rattle.reader.specs.Class.{class_of, foreign};
 
 // What a byte of a text may be.
 #[derive(Clone, Copy)]
@@ -15,6 +15,7 @@ pub enum Class {
 }
 
 // The class of a byte.
+#[inline]
 pub(crate) fn class_of(byte: u8) -> Class
     ensures { result ≡ class_of byte }
 {
@@ -28,44 +29,18 @@ pub(crate) fn class_of(byte: u8) -> Class
     }
 }
 
-// Whether the class is that of digits.
-fn digit_class(class: Class) -> bool
-    ensures { result ≡ digital class }
-{
-    match class {
-        Class::Digit => true,
-        Class::SmallLetter => false,
-        Class::Bracket => false,
-        Class::Space => false,
-        Class::LineFeed => false,
-        Class::Foreign => false,
-    }
-}
-
-// Whether the class is that of foreign bytes.
-fn foreign_class(class: Class) -> bool
-    ensures { result ≡ foreign class }
-{
-    match class {
-        Class::Digit => false,
-        Class::SmallLetter => false,
-        Class::Bracket => false,
-        Class::Space => false,
-        Class::LineFeed => false,
-        Class::Foreign => true,
-    }
-}
-
 // Whether a byte is a digit.
+#[inline]
 pub(crate) fn is_digit(byte: u8) -> bool
     ensures { result ≡ is_digit byte }
 {
-    digit_class(class_of(byte))
+    matches!(class_of(byte), Class::Digit)
 }
 
 // Whether a byte is foreign.
+#[inline]
 pub(crate) fn is_foreign(byte: u8) -> bool
     ensures { result ≡ foreign (class_of byte) }
 {
-    foreign_class(class_of(byte))
+    matches!(class_of(byte), Class::Foreign)
 }

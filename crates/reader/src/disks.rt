@@ -2,55 +2,34 @@
 ghost use Rattle.placement.specs.Packed.{disks_in};
 ghost use Rattle.reader.specs.Disks.{DisksReady, DisksRead};
 
+use crate::answer::Misfit;
 use crate::cursor::Cursor;
-use crate::line::disk_line;
 use placement::disk_slots;
 
-// The number of disk lines that fit, what they serve, and the cursor behind them.
-#[derive(Clone, Copy)]
-pub struct DiskLines {
-    pub lines: u32,
-    pub served: u64,
-    pub after: Cursor,
-}
-
-// The lines of all disks; each disk's copies are stored from its first place on.
-pub(crate) fn disk_lines(
-    text: &[u8],
-    start: Cursor,
-    rack: &[u64],
-    copies: &mut [u64],
-    counts: &mut [u32],
-) -> DiskLines
-    requires { DisksReady start (disks_in rack.now) copies.old counts.old }
-    ensures { DisksRead text.now start (disks_in rack.now) copies.old counts.old
-        copies.new counts.new result }
-{
-    let mut here = start;
-    let mut served = 0u64;
-    let mut from = 0usize;
-    let mut disk = 0usize;
-    while disk < rack.len() {
-        let to = from + disk_slots(rack[disk]).0 as usize;
-        let part = &mut copies[from..to];
-        let line = disk_line(text, here, disk as u32 + 1, rack[disk], part);
-        let after = line.after;
-        if !after.fits {
-            return DiskLines {
-                lines: disk as u32,
-                served,
-                after,
+impl<'a> Cursor<'a> {
+    // Reads the lines of all disks: what they serve; each disk's copies are stored from its first place on.
+    pub(crate) fn disk_lines(
+        &mut self,
+        rack: &[u64],
+        copies: &mut [u64],
+        counts: &mut [u32],
+    ) -> Result<u64, Misfit>
+        requires { DisksReady (disks_in rack.now) copies.old counts.old }
+        ensures { DisksRead self.old self.new (disks_in rack.now) copies.old counts.old
+            copies.new counts.new result }
+    {
+        let mut served = 0u64;
+        let mut from = 0usize;
+        for disk in 0..rack.len() {
+            let to = from + disk_slots(rack[disk]).0 as usize;
+            let Some(line) = self.disk_line(disk as u32 + 1, rack[disk], &mut copies[from..to])
+            else {
+                return Err(Misfit { lines: disk as u32 });
             };
+            counts[disk] = line.count as u32;
+            served += line.sum;
+            from = to;
         }
-        counts[disk] = line.count as u32;
-        served += line.sum;
-        here = after;
-        from = to;
-        disk += 1;
-    }
-    DiskLines {
-        lines: disk as u32,
-        served,
-        after: here,
+        Ok(served)
     }
 }

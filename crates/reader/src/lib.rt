@@ -4,11 +4,10 @@
 mod answer; // answer.rt: what reading answers where it does not refuse
 mod call; // call.rt: a call, with tables to work in
 mod class; // class.rt: the classes of bytes
-mod cursor; // cursor.rt: a position in the text
+mod cursor; // cursor.rt: the bytes that are not read yet, and steps over them
 mod disks; // disks.rt: the lines of all disks
 mod first; // first.rt: the first line, in either form
 mod line; // line.rt: each kind of line
-mod number; // number.rt: numbers read or compared
 mod pairs; // pairs.rt: the pairs of a line
 mod plan; // plan.rt: the whole text
 mod tables; // tables.rt: storing a plan in lent tables

@@ -1,119 +1,107 @@
 // The lines of a text: the rack of equal disks, disk, left and served.
 ghost use Rattle.std.specs.Prelude.{◌≡◌, true, length};
-ghost use Rattle.plan_text.specs.Parse.{next, literal};
+ghost use Rattle.plan_text.specs.Parse.{literal};
 ghost use Rattle.plan_text.specs.Capped.{saturated};
 ghost use Rattle.placement.specs.Packed.{disk_in};
 ghost use Rattle.placement.specs.Plan.{left_accepted, most_left};
 ghost use Rattle.plan_text.specs.Text.{left_head, served_line};
 ghost use Rattle.plan_text.specs.Reading.{line, rack_body, sizes_accepted};
-ghost use Rattle.reader.specs.Cursor.{place};
-ghost use Rattle.reader.specs.Line.{line_end, sizes_of, LineRead, DiskRead};
+ghost use Rattle.reader.specs.Cursor.{parse_of, parse_by};
+ghost use Rattle.reader.specs.Line.{line_end, sizes, LineRead, DiskRead};
 
-use crate::cursor::{Cursor, eat, eat_all, provided};
-use crate::number::{eat_number, read_number};
-use crate::pairs::read_pairs;
+use crate::cursor::Cursor;
 use placement::{Rack, Slots, Streams, disk_slots, disk_streams};
 
-// A rack that was read, and the cursor behind it.
-#[derive(Clone, Copy)]
-pub struct RackLine {
-    pub rack: Rack,
-    pub after: Cursor,
-}
-
-// How many pairs a line has, what they sum to, and the cursor behind the line.
+// How many pairs a line has, and what they sum to.
 #[derive(Clone, Copy)]
 pub struct PairsLine {
     pub count: usize,
     pub sum: u64,
-    pub after: Cursor,
 }
 
-// The cursor behind a line feed, stopped where the test of the line fails.
-pub(crate) fn end_line(text: &[u8], cursor: Cursor, test: bool) -> Cursor
-    ensures { place text.now result ≡ next (place text.now cursor) (λ u t. line_end test t) }
-{
-    let ended = eat(text, cursor, b'\n');
-    provided(ended, test)
-}
-
-// The rack at the cursor, up to its closing bracket.
-fn read_rack(text: &[u8], cursor: Cursor) -> RackLine
-    ensures { sizes_of text.now result ≡ next (place text.now cursor) (λ u t. rack_body saturated t) }
-{
-    let opened = eat_all(text, cursor, b"(rack ");
-    let disks = read_number(text, opened);
-    let second = eat(text, disks.after, b' ');
-    let slots = read_number(text, second);
-    let third = eat(text, slots.after, b' ');
-    let streams = read_number(text, third);
-    let closed = eat(text, streams.after, b')');
-    RackLine {
-        rack: Rack {
-            disks: disks.value,
-            slots: Slots(slots.value),
-            streams: Streams(streams.value),
-        },
-        after: closed,
+impl<'a> Cursor<'a> {
+    // Reads a line feed; the line has to pass its test.
+    pub(crate) fn end_line(&mut self, test: bool) -> Option<()>
+        ensures { parse_of result self.new ≡ line_end test self.old }
+    {
+        self.eat(b'\n')?;
+        if !test {
+            return None;
+        }
+        Some(())
     }
-}
 
-// The line of a rack of equal disks.
-pub(crate) fn rack_line(text: &[u8], cursor: Cursor) -> RackLine
-    ensures { sizes_of text.now result ≡ next (place text.now cursor) (λ u t. line (rack_body saturated) sizes_accepted t) }
-{
-    let body = read_rack(text, cursor);
-    let rack = body.rack;
-    let after = end_line(text, body.after, placement::accepted(rack));
-    RackLine { rack, after }
-}
+    // Reads a rack, up to its closing bracket.
+    fn rack(&mut self) -> Option<Rack>
+        ensures { parse_by sizes result self.new ≡ rack_body saturated self.old }
+    {
+        self.eat_all(b"(rack ")?;
+        let disks = self.number()?;
+        self.eat(b' ')?;
+        let slots = Slots(self.number()?);
+        self.eat(b' ')?;
+        let streams = Streams(self.number()?);
+        self.eat(b')')?;
+        Some(Rack {
+            disks,
+            slots,
+            streams,
+        })
+    }
 
-// A packed disk's line; its copies are stored in the disk's places.
-pub(crate) fn disk_line(
-    text: &[u8],
-    cursor: Cursor,
-    number: u32,
-    disk: u64,
-    copies: &mut [u64],
-) -> PairsLine
-    requires { length copies.old ≡ (disk_in «disk»).slots }
-    ensures { DiskRead number (disk_in «disk») text.now cursor copies.old copies.new result }
-{
-    let opened = eat_all(text, cursor, b"(disk ");
-    let headed = eat_number(text, opened, number as u64);
-    let pairs = read_pairs(text, headed, copies, true);
-    let count = pairs.count;
-    let sum = well_formed::total(&copies[..count]);
-    let slots = disk_slots(disk);
-    let streams = disk_streams(disk);
-    let storable = well_formed::disk_accepted(slots, streams, &copies[..count]);
-    let after = end_line(text, pairs.after, storable);
-    PairsLine { count, sum, after }
-}
+    // Reads the line of a rack of equal disks.
+    #[tactic(auto, using(crate::proofs::Lines::line_parts))]
+    pub(crate) fn rack_line(&mut self) -> Option<Rack>
+        ensures { parse_by sizes result self.new ≡ line (rack_body saturated) sizes_accepted self.old }
+    {
+        let rack = self.rack()?;
+        self.end_line(placement::accepted(rack))?;
+        Some(rack)
+    }
 
-// The left line; its pairs are stored from the front.
-pub(crate) fn left_line(text: &[u8], cursor: Cursor, left: &mut [u64]) -> PairsLine
-    requires { length left.old ≡ most_left }
-    ensures { LineRead left_head left_accepted text.now cursor left.old left.new result }
-{
-    let headed = eat_all(text, cursor, b"(left");
-    let pairs = read_pairs(text, headed, left, false);
-    let count = pairs.count;
-    let sum = well_formed::total(&left[..count]);
-    let accepted = well_formed::left_accepted(&left[..count]);
-    let after = end_line(text, pairs.after, accepted);
-    PairsLine { count, sum, after }
-}
+    // Reads a packed disk's line; its copies are stored in the disk's places.
+    pub(crate) fn disk_line(
+        &mut self,
+        number: u32,
+        disk: u64,
+        copies: &mut [u64],
+    ) -> Option<PairsLine>
+        requires { length copies.old ≡ (disk_in «disk»).slots }
+        ensures { DiskRead number (disk_in «disk») self.old self.new copies.old copies.new result }
+    {
+        self.eat_all(b"(disk ")?;
+        self.eat_number(number as u64)?;
+        let count = self.pairs(copies, true)?;
+        let sum = well_formed::total(&copies[..count]);
+        let slots = disk_slots(disk);
+        let streams = disk_streams(disk);
+        let storable = well_formed::disk_accepted(slots, streams, &copies[..count]);
+        self.end_line(storable)?;
+        Some(PairsLine { count, sum })
+    }
 
-// The served line, with the two sums as they must be.
-pub(crate) fn served_line(text: &[u8], cursor: Cursor, served: u64, unserved: u64) -> Cursor
-    ensures { place text.now result
-        ≡ next (place text.now cursor) (λ u t. line (literal (served_line served unserved)) (λ a. true) t) }
-{
-    let opened = eat_all(text, cursor, b"(served ");
-    let first = eat_number(text, opened, served);
-    let spaced = eat(text, first, b' ');
-    let second = eat_number(text, spaced, unserved);
-    let closed = eat(text, second, b')');
-    end_line(text, closed, true)
+    // Reads the left line; its pairs are stored from the front.
+    pub(crate) fn left_line(&mut self, left: &mut [u64]) -> Option<PairsLine>
+        requires { length left.old ≡ most_left }
+        ensures { LineRead left_head left_accepted self.old self.new left.old left.new result }
+    {
+        self.eat_all(b"(left")?;
+        let count = self.pairs(left, false)?;
+        let sum = well_formed::total(&left[..count]);
+        let accepted = well_formed::left_accepted(&left[..count]);
+        self.end_line(accepted)?;
+        Some(PairsLine { count, sum })
+    }
+
+    // Reads the served line, with the two sums as they must be.
+    pub(crate) fn served_line(&mut self, served: u64, unserved: u64) -> Option<()>
+        ensures { parse_of result self.new ≡ line (literal (served_line served unserved)) (λ a. true) self.old }
+    {
+        self.eat_all(b"(served ")?;
+        self.eat_number(served)?;
+        self.eat(b' ')?;
+        self.eat_number(unserved)?;
+        self.eat(b')')?;
+        self.end_line(true)
+    }
 }

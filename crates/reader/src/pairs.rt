@@ -1,118 +1,71 @@
 // The pairs or copies of a line.
 ghost use Rattle.std.specs.Prelude.{◌≡◌};
-ghost use Rattle.placement.specs.Copies.{halves_of};
-ghost use Rattle.plan_text.specs.Parse.{parsed, next, pair_start, copy_end};
+ghost use Rattle.placement.specs.Items.{item};
+ghost use Rattle.plan_text.specs.Parse.{pair_start, parsed, next};
 ghost use Rattle.plan_text.specs.Capped.{saturated};
-ghost use Rattle.reader.specs.Cursor.{place};
-ghost use Rattle.reader.specs.Pairs.{pair_of, entry_read, PairsRead};
+ghost use Rattle.reader.specs.Cursor.{parse_by};
+ghost use Rattle.reader.specs.Pairs.{halves_end, entry_read, PairsRead};
 
-use crate::cursor::{Cursor, eat, eat_all};
-use crate::number::read_number;
+use crate::cursor::Cursor;
 use placement::{MARK, MOST_PLAN_FILM, entry_of};
 
-// The low and the high half of an entry, a film and its number, and the cursor behind them.
-#[derive(Clone, Copy)]
-pub struct Pair {
-    pub film: u32,
-    pub amount: u32,
-    pub after: Cursor,
-}
+impl<'a> Cursor<'a> {
+    // Reads the two numbers of a pair.
+    fn pair_start(&mut self) -> Option<(u32, u32)>
+        ensures { parse_by (λ p. item p.0 p.1) result self.new ≡ pair_start saturated self.old }
+    {
+        self.eat(b'(')?;
+        let film = self.number()?;
+        self.eat(b' ')?;
+        let amount = self.number()?;
+        Some((film, amount))
+    }
 
-// How many pairs were read, and the cursor behind the line's closing bracket.
-#[derive(Clone, Copy)]
-pub struct Pairs {
-    pub count: usize,
-    pub after: Cursor,
-}
-
-// The two numbers of the pair at the cursor.
-fn read_start(text: &[u8], cursor: Cursor) -> Pair
-    ensures { pair_of text.now result ≡ next (place text.now cursor) (λ u t. pair_start saturated t) }
-{
-    let opened = eat(text, cursor, b'(');
-    let film = read_number(text, opened);
-    let spaced = eat(text, film.after, b' ');
-    let amount = read_number(text, spaced);
-    let after = amount.after;
-    Pair {
-        film: film.value,
-        amount: amount.value,
-        after,
-    }
-}
-
-// The copy that begins with these two numbers, by how it ends: the mark goes into the low half.
-fn end_copy(text: &[u8], start: Pair) -> Pair
-    ensures { pair_of text.now result
-        ≡ next (pair_of text.now start) (λ x t. next (copy_end x t) (λ c s. parsed (halves_of c) s)) }
-{
-    let film = start.film;
-    let amount = start.amount;
-    let behind = start.after;
-    if film > MOST_PLAN_FILM {
-        let after = Cursor {
-            at: behind.at,
-            fits: false,
-        };
-        return Pair {
-            film,
-            amount,
-            after,
-        };
-    }
-    let closed = eat(text, behind, b')');
-    if closed.fits {
-        return Pair {
-            film,
-            amount,
-            after: closed,
-        };
-    }
-    let held = eat_all(text, behind, b" held)");
-    Pair {
-        film: film + MARK,
-        amount,
-        after: held,
-    }
-}
-
-// The pair at the cursor, or where marks are allowed the copy.
-pub(crate) fn read_pair(text: &[u8], cursor: Cursor, marks: bool) -> Pair
-    ensures { pair_of text.now result ≡ next (place text.now cursor) (λ u t. entry_read marks t) }
-{
-    let start = read_start(text, cursor);
-    if marks {
-        return end_copy(text, start);
-    }
-    let closed = eat(text, start.after, b')');
-    Pair {
-        film: start.film,
-        amount: start.amount,
-        after: closed,
-    }
-}
-
-// The pairs or copies at the cursor, as many as there are places, stored from the front.
-pub(crate) fn read_pairs(text: &[u8], cursor: Cursor, entries: &mut [u64], marks: bool) -> Pairs
-    ensures { PairsRead marks text.now cursor entries.old entries.new result }
-{
-    let mut here = cursor;
-    let mut n = 0;
-    while n < entries.len() {
-        let spaced = eat(text, here, b' ');
-        if !spaced.fits {
-            return Pairs {
-                count: n,
-                after: eat(text, here, b')'),
-            };
+    // Reads the end of a copy of this film; the mark goes into the low half.
+    #[tactic(auto, using(crate::proofs::CopyEnds::end_large, crate::proofs::CopyEnds::end_closed, crate::proofs::CopyEnds::end_held))]
+    fn copy_end(&mut self, film: u32, viewers: u32) -> Option<u32>
+        ensures { parse_by (λ f. item f viewers) result self.new ≡ halves_end (item film viewers) self.old }
+    {
+        if film > MOST_PLAN_FILM {
+            return None;
         }
-        let pair = read_pair(text, spaced, marks);
-        entries[n] = entry_of(pair.film, pair.amount);
-        here = pair.after;
-        n += 1;
+        if self.eat(b')').is_some() {
+            return Some(film);
+        }
+        self.eat_all(b" held)")?;
+        Some(film + MARK)
     }
-    Pairs {
-        count: n,
-        after: eat(text, here, b')'),
+
+    // Reads a pair, or where marks are allowed a copy: the low and the high half of its entry.
+    #[tactic(auto, using(crate::proofs::CopyEnds::halves_parts))]
+    fn pair(&mut self, marks: bool) -> Option<(u32, u32)>
+        ensures { parse_by (λ p. item p.0 p.1) result self.new ≡ entry_read marks self.old }
+    {
+        let (film, amount) = self.pair_start()?;
+        if marks {
+            let low = self.copy_end(film, amount)?;
+            return Some((low, amount));
+        }
+        self.eat(b')')?;
+        Some((film, amount))
+    }
+
+    // Reads pairs or copies up to the line's closing bracket, as many as there are places, and stores them from the front.
+    pub(crate) fn pairs(&mut self, entries: &mut [u64], marks: bool) -> Option<usize>
+        ensures { PairsRead marks self.old self.new entries.old entries.new result }
+    {
+        let mut here = self.fork();
+        for n in 0..entries.len() {
+            if here.eat(b' ').is_none() {
+                here.eat(b')')?;
+                *self = here;
+                return Some(n);
+            }
+            let (film, amount) = here.pair(marks)?;
+            entries[n] = entry_of(film, amount);
+        }
+        here.eat(b')')?;
+        *self = here;
+        Some(entries.len())
     }
 }

@@ -8,9 +8,7 @@ ghost use Rattle.plan_text.specs.ReadCall.{lines_judged};
 ghost use Rattle.reader.specs.Pass.{Judged};
 
 use crate::answer::PlanRead;
-use crate::disks::disk_lines;
-use crate::first::first_line;
-use crate::tail::tail_lines;
+use crate::cursor::Cursor;
 use refusal::Refusal;
 
 // The plan of a text, read line by line into 64 packed disks and tables of zeros, or the number of the first line that does not fit.
@@ -26,25 +24,22 @@ pub(crate) fn read_lines(
         (tables copies.old counts.old left.old)
         (tables copies.new counts.new left.new) result }
 {
-    let first = first_line(text, rack);
-    let start = first.after;
-    if !start.fits {
+    let mut cursor = Cursor::new(text);
+    let Some(disks) = cursor.first_line(rack) else {
         return Err(Refusal::Line(1));
-    }
-    let n = first.disks as usize;
-    let disks = disk_lines(text, start, &rack[..n], copies, counts);
-    let after = disks.after;
-    if !after.fits {
-        return Err(Refusal::Line(disks.lines + 2));
-    }
-    let tail = tail_lines(text, after, disks.served, left);
-    if !tail.fits {
-        return Err(Refusal::Line(first.disks + tail.lines + 2));
-    }
+    };
+    let served = match cursor.disk_lines(&rack[..disks as usize], copies, counts) {
+        Ok(served) => served,
+        Err(misfit) => return Err(Refusal::Line(misfit.lines + 2)),
+    };
+    let tail = match cursor.tail_lines(served, left) {
+        Ok(tail) => tail,
+        Err(misfit) => return Err(Refusal::Line(disks + misfit.lines + 2)),
+    };
     Ok(PlanRead {
-        disks: first.disks,
-        served: disks.served,
-        unserved: tail.unserved,
+        disks,
+        served,
+        unserved: tail.sum,
         left: tail.count as u32,
     })
 }

@@ -1,54 +1,24 @@
 // What stands behind the disk lines: the left line, the served line, and the end of the text.
-ghost use Rattle.reader.specs.Tail.{TailReady, TailRead};
+ghost use Rattle.std.specs.Prelude.{◌≡◌, length};
+ghost use Rattle.placement.specs.Plan.{most_left};
+ghost use Rattle.reader.specs.Tail.{TailRead};
 
+use crate::answer::Misfit;
 use crate::cursor::Cursor;
-use crate::line::{left_line, served_line};
+use crate::line::PairsLine;
 
-// How many of the lines fit; whether both do and end the text; the number of left films and the sum of their amounts.
-#[derive(Clone, Copy)]
-pub struct TailLines {
-    pub lines: u32,
-    pub fits: bool,
-    pub count: usize,
-    pub unserved: u64,
-}
-
-// The lines behind those of the disks, which serve so many; the left films are stored from the front.
-pub(crate) fn tail_lines(text: &[u8], start: Cursor, served: u64, left: &mut [u64]) -> TailLines
-    requires { TailReady start left.old }
-    ensures { TailRead text.now start served left.old left.new result }
-{
-    let line = left_line(text, start, left);
-    let behind = line.after;
-    if !behind.fits {
-        return TailLines {
-            lines: 0,
-            fits: false,
-            count: line.count,
-            unserved: line.sum,
-        };
-    }
-    let end = served_line(text, behind, served, line.sum);
-    if !end.fits {
-        return TailLines {
-            lines: 1,
-            fits: false,
-            count: line.count,
-            unserved: line.sum,
-        };
-    }
-    if end.at < text.len() {
-        return TailLines {
-            lines: 2,
-            fits: false,
-            count: line.count,
-            unserved: line.sum,
-        };
-    }
-    TailLines {
-        lines: 2,
-        fits: true,
-        count: line.count,
-        unserved: line.sum,
+impl<'a> Cursor<'a> {
+    // Reads the lines behind those of the disks, which serve so many, up to the end of the text; the left films are stored from the front.
+    pub(crate) fn tail_lines(&mut self, served: u64, left: &mut [u64]) -> Result<PairsLine, Misfit>
+        requires { length left.old ≡ most_left }
+        ensures { TailRead self.old served left.old left.new result }
+    {
+        let line = self.left_line(left).ok_or(Misfit { lines: 0 })?;
+        self.served_line(served, line.sum)
+            .ok_or(Misfit { lines: 1 })?;
+        if !self.is_done() {
+            return Err(Misfit { lines: 2 });
+        }
+        Ok(line)
     }
 }

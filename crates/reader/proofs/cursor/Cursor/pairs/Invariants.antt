@@ -1,0 +1,13 @@
+-- `reader::cursor::Cursor::pairs` meets its contract. The invariant: the pairs so far, before what the rest reads, are what the whole reads.
+use Rattle.std.proofs.Common.{◌≡◌, ◌-◌, length}
+use Rattle.placement.specs.Held.{front}
+use Rattle.plan_text.specs.Parse.{spaced_read}
+use Rattle.reader.specs.Pairs.{Stored, entry_read}
+use Rattle.reader.proofs.PairLists.{reads_on}
+use Rattle.reader.proofs.cursor.Cursor.pairs.Given as goal
+
+abbrev pub invariant-loop-n : goal.invariant-loop-n
+invariant-loop-n l = (length l.entries ≡ length l.fn.entries)
+    × Stored l.n l.fn.entries l.entries
+    × (reads_on (entry_read l.marks) (front l.n l.entries) (length l.fn.entries - l.n) l.here
+    ≡ spaced_read (entry_read l.marks) (length l.fn.entries) l.fn.self)
