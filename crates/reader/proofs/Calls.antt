@@ -14,13 +14,12 @@ use Rattle.refusal.specs.declared.Refusal.TheVariants.{TablesTooShort}
 use Rattle.refusal.proofs.Verdicts.{unless_refuses}
 use Rattle.placement.specs.Rack.{Disk, all_slots, most_disks, most_slots}
 use Rattle.placement.specs.Packed.{disks_in}
-use Rattle.placement.specs.Tables.{Tables, room_in, room_for, own_tables}
-use Rattle.placement.specs.Plan.{Plan, well_formed}
+use Rattle.placement.specs.Tables.{Tables, room_for}
+use Rattle.placement.specs.Plan.{Plan, most_left, well_formed}
 use Rattle.placement.proofs.Conjunctions.{both_true}
-use Rattle.placement.proofs.Racks.{accepted_all_slots}
+use Rattle.placement.proofs.Racks.{accepted_disks, accepted_all_slots}
 use Rattle.placement.proofs.PackedRacks.{disks_length}
 use Rattle.placement.proofs.Formed.{plan_rack, plan_left, left_count}
-use Rattle.placement.proofs.OwnTables.{own_room}
 use Rattle.plan_text.specs.ReadCall.{Told, answer_to, text_verdict, with_tables}
 use Rattle.plan_text.proofs.Verdicts.{verdict_well_formed}
 use Rattle.reader.specs.declared.answer.PlanRead.{PlanRead}
@@ -84,13 +83,15 @@ module _ (text lent : List ℕ) (entry : Tables) (packed : List ℕ) (work work'
   room_same : (t : Tables) → room_for rack r.left t ≡ room_for p.rack (length p.left) t
   room_same t = ap₂ (λ (ds : List Disk) (n : ℕ). room_for ds n t) rack_same left_same
 
-  -- They are among those that were packed, and their slots are those of an accepted rack.
-  pub work_few : r.disks ≤ length packed
-  work_few =
-      omega (arith, disks_same, ap length rack_same, disks_length (take r.disks packed), length-take r.disks packed)
+  -- They are few, and their slots are those of an accepted rack.
+  pub work_few : r.disks ≤ most_disks
+  work_few = omega (arith, disks_same, (accepted_disks p.rack (plan_rack p formed)).1)
 
   pub work_slots : all_slots rack ≤ most_disks * most_slots
   work_slots = omega (arith, ap all_slots rack_same, accepted_all_slots p.rack (plan_rack p formed))
+
+  pub work_left : r.left ≤ most_left
+  work_left = omega (arith, left_same, left_count p.left (plan_left p formed))
 
   abbrev Short : Type 0
   Short = ReadPromise text (disks_in lent) entry (disks_in lent) entry (numbers_of (Err TablesTooShort))
@@ -102,13 +103,10 @@ module _ (text lent : List ℕ) (entry : Tables) (packed : List ℕ) (work work'
 
   -- What is lent has room for it.
   abbrev enough : Bool
-  enough = leb (length (take r.disks packed)) (length lent) && room_for rack r.left entry
+  enough = leb r.disks (length lent) && room_for rack r.left entry
 
-  read_count : length (take r.disks packed) ≡ length p.rack
-  read_count = sym (disks_length (take r.disks packed)) ∙ ap length rack_same
-
-  fits_same : leb (length (take r.disks packed)) (length lent) ≡ leb (length p.rack) (length (disks_in lent))
-  fits_same = ap₂ leb read_count (sym (disks_length lent))
+  fits_same : leb r.disks (length lent) ≡ leb (length p.rack) (length (disks_in lent))
+  fits_same = ap₂ leb disks_same (sym (disks_length lent))
 
   -- It has not.
   pub call_short : enough ≡ false → Short
@@ -119,29 +117,17 @@ module _ (text lent : List ℕ) (entry : Tables) (packed : List ℕ) (work work'
 
   -- It has, and the plan is stored.
   pub call_stored :
-      (lent' : List ℕ) (exit : Tables) → enough ≡ true → lent' ≡ front_copied r.disks (take r.disks packed) lent
+      (lent' : List ℕ) (exit : Tables) → enough ≡ true → lent' ≡ front_copied r.disks packed lent
       → exit ≡ fronts_copied rack r.left work' entry
       → ReadPromise text (disks_in lent) entry (disks_in lent') exit (numbers_of (Ok r))
   call_stored lent' exit e copied_rack stored =
-      let both = both_true (leb (length (take r.disks packed)) (length lent)) (room_for rack r.left entry) e in
+      let both = both_true (leb r.disks (length lent)) (room_for rack r.left entry) e in
       read_given text p found.1 (numbers_of (Ok r)) numbers (disks_in lent) entry (disks_in lent') exit (sym fits_same ∙ both.0)
       (sym (room_same entry) ∙ both.1)
       (ap disks_in copied_rack
-      ∙ over_disks (take r.disks (take r.disks packed)) lent r.disks
-      ∙ ap₂ (λ (s : List ℕ) (n : ℕ). disks_in s ++ drop n (disks_in lent)) (take-take r.disks r.disks packed (omega arith)) disks_same
-      ∙ ap (λ (ds : List Disk). ds ++ drop (length p.rack) (disks_in lent)) rack_same)
+      ∙ over_disks (take r.disks packed) lent r.disks
+      ∙ ap₂ (λ (ds : List Disk) (n : ℕ). ds ++ drop n (disks_in lent)) rack_same disks_same)
       (stored
       ∙ ap₂ (λ (ds : List Disk) (n : ℕ). fronts_copied ds n work' entry) rack_same left_same
       ∙ ap (λ (t : Tables). fronts_copied p.rack (length p.left) t entry) (judged.tables p found.1)
       ∙ copied p work entry formed)
-
-  -- The tables to work in have room.
-  pub work_room :
-      work ≡ own_tables → length work'.copies ≡ length work.copies → length work'.counts ≡ length work.counts
-      → length work'.left ≡ length work.left → room_for rack r.left work' ≡ true
-  work_room own a b c =
-      ap₂ (λ (i j : ℕ). room_in rack r.left i j (length work'.left)) a b
-      ∙ ap (λ (k : ℕ). room_in rack r.left (length work.copies) (length work.counts) k) c
-      ∙ ap (room_for rack r.left) own
-      ∙ room_same own_tables
-      ∙ own_room p.rack (length p.left) (plan_rack p formed) (left_count p.left (plan_left p formed))

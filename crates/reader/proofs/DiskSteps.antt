@@ -6,6 +6,7 @@ use native.Mathlib.Omega.{arith}
 use Rattle.std.specs.Prelude.{Some, None, Err}
 use lib.ListN.{length, take, drop, set, length-set, length-take, length-drop, length-map, length-replicate}
 use borrow.Rule.Slice.PartMut.{put_mid, same_len_mid}
+use Rattle.refusal.specs.declared.Refusal.TheVariants.{Line}
 use Rattle.placement.specs.Items.{Item}
 use Rattle.placement.specs.Copies.{Copy, unmarked, copy_of}
 use Rattle.placement.specs.Rack.{Disk, most_disks}
@@ -61,14 +62,17 @@ module _ {text : List ℕ} {rack : List Disk} {copies₀ counts₀ : List ℕ} (
     -- The line is refused.
     pub so_far_stopped :
         (rest copies' part' : List ℕ) → DiskRead (i + 1) d here rest part part' None
-        → DisksRead text rest rack copies₀ counts₀ copies' counts (Err (record { lines = i }))
+        → DisksRead text rest rack copies₀ counts₀ copies' counts (Err (Line (i + 1 + 1)))
     so_far_stopped rest copies' part' read = record {
       fit = tt;
-      few = now.few;
-      stopped =
-          now.reads
-          ∙ disks_refused (map (map copy_of) now.layout) here (drop i rack) i sum d (drop (i + 1) rack)
-          (onward rack i d less is) (length-map now.layout (map copy_of) ∙ now.filled.number ∙ number) (sym (read.reads ∙ same_body));
+      stopped = record {
+        fit = i;
+        named = ap Line (omega arith);
+        reads =
+            now.reads
+            ∙ disks_refused (map (map copy_of) now.layout) here (drop i rack) i sum d (drop (i + 1) rack)
+            (onward rack i d less is) (length-map now.layout (map copy_of) ∙ now.filled.number ∙ number) (sym (read.reads ∙ same_body));
+      };
     }
 
     module _ {rest part' : List ℕ} {r : PairsLine} (read : DiskRead (i + 1) d here rest part part' (Some r)) where

@@ -56,6 +56,5 @@ so_far_done {text} {rack} {copies₀} {counts₀} {copies} {counts} {here} {sum}
     sum_is = now.sum_is;
     reads = now.reads ∙ disks_done (map (map copy_of) now.layout) here (drop disk rack) disk sum (drop_of_length-le rack all);
   };
-  few = tt;
   stopped = tt;
 }

@@ -12,7 +12,7 @@ use Rattle.placement.specs.Held.{front}
 use Rattle.plan_text.specs.Text.{space, closed}
 use Rattle.plan_text.specs.Parse.{Parse, parsed, unparsed, next, byte, end_or, spaced_read}
 use Rattle.plan_text.proofs.Pieces.{unparsed_parsed, byte_sound}
-use Rattle.reader.specs.Pairs.{Stored, entry_read, PairsRead}
+use Rattle.reader.specs.Pairs.{Stored, PairsRead}
 
 -- The closing bracket, where no pair follows.
 abbrev pub ending : List ℕ → Parse (List Item)
@@ -97,45 +97,45 @@ module _ (one : List ℕ → Parse Item) where
       ap (λ (p : Parse (List Item)). next p (λ xs end. parsed (before ++ xs) end)) (spaced_last m t e) ∙ ended before (byte closed t)
 
 -- In the middle of a line of pairs or copies: n of them stand at the front of the entries, before what the bytes `here` say.
-module _ (marks : Bool) (text here entries now : List ℕ) (n : ℕ)
-    (so_far : reads_on (entry_read marks) (front n now) (length entries - n) here ≡ spaced_read (entry_read marks) (length entries) text) where
+module _ (one : List ℕ → Parse Item) (text here entries now : List ℕ) (n : ℕ)
+    (so_far : reads_on one (front n now) (length entries - n) here ≡ spaced_read one (length entries) text) where
   -- Neither a pair nor the end follows.
   pub pairs_no_end :
-      (rest : List ℕ) (r : Option ℕ) → r ≡ None → byte space here ≡ unparsed → byte closed here ≡ unparsed → PairsRead marks text rest entries now r
+      (rest : List ℕ) (r : Option ℕ) → r ≡ None → byte space here ≡ unparsed → byte closed here ≡ unparsed → PairsRead one text rest entries now r
   pairs_no_end rest r is no_pair no_end = rw is (record {
-    reads = sym (sym so_far ∙ reads_on_last (entry_read marks) (front n now) (length entries - n) here no_pair ∙ ap (λ (p : Parse (Unit {0})). next p (λ u s. parsed (front n now) s)) no_end);
+    reads = sym (sym so_far ∙ reads_on_last one (front n now) (length entries - n) here no_pair ∙ ap (λ (p : Parse (Unit {0})). next p (λ u s. parsed (front n now) s)) no_end);
     stored = tt;
   })
 
   -- The end follows.
   pub pairs_end :
       (rest : List ℕ) → byte space here ≡ unparsed → byte closed here ≡ parsed tt rest → Stored n entries now
-      → PairsRead marks text rest entries now (Some n)
+      → PairsRead one text rest entries now (Some n)
   pairs_end rest no_pair end stored = record {
-    reads = sym (sym so_far ∙ reads_on_last (entry_read marks) (front n now) (length entries - n) here no_pair ∙ ap (λ (p : Parse (Unit {0})). next p (λ u s. parsed (front n now) s)) end);
+    reads = sym (sym so_far ∙ reads_on_last one (front n now) (length entries - n) here no_pair ∙ ap (λ (p : Parse (Unit {0})). next p (λ u s. parsed (front n now) s)) end);
     stored = stored;
   }
 
   -- A space follows.
   module _ (s : List ℕ) (spaced : byte space here ≡ parsed tt s) (room : n < length entries) where
-    on : next (entry_read marks s) (λ x r. reads_on (entry_read marks) (front n now ++ (x ∷ [])) (length entries - (n + 1)) r)
-        ≡ spaced_read (entry_read marks) (length entries) text
+    on : next (one s) (λ x r. reads_on one (front n now ++ (x ∷ [])) (length entries - (n + 1)) r)
+        ≡ spaced_read one (length entries) text
     on =
         let m : length entries - n ≡ suc (length entries - (n + 1)) = omega arith in
-        sym (reads_on_more (entry_read marks) (front n now) (length entries - (n + 1)) here s spaced)
-        ∙ ap (λ (k : ℕ). reads_on (entry_read marks) (front n now) k here) (sym m)
+        sym (reads_on_more one (front n now) (length entries - (n + 1)) here s spaced)
+        ∙ ap (λ (k : ℕ). reads_on one (front n now) k here) (sym m)
         ∙ so_far
 
     -- It leads to no pair.
-    pub pairs_no_pair : (rest : List ℕ) (r : Option ℕ) → r ≡ None → entry_read marks s ≡ unparsed → PairsRead marks text rest entries now r
+    pub pairs_no_pair : (rest : List ℕ) (r : Option ℕ) → r ≡ None → one s ≡ unparsed → PairsRead one text rest entries now r
     pairs_no_pair rest r is no_pair = rw is (record {
-      reads = sym (sym on ∙ ap (λ (p : Parse Item). next p (λ x r. reads_on (entry_read marks) (front n now ++ (x ∷ [])) (length entries - (n + 1)) r)) no_pair);
+      reads = sym (sym on ∙ ap (λ (p : Parse Item). next p (λ x r. reads_on one (front n now ++ (x ∷ [])) (length entries - (n + 1)) r)) no_pair);
       stored = tt;
     })
 
     -- It leads to one more.
     pub pairs_more :
-        (x : Item) (rest : List ℕ) → entry_read marks s ≡ parsed x rest
-        → reads_on (entry_read marks) (front n now ++ (x ∷ [])) (length entries - (n + 1)) rest ≡ spaced_read (entry_read marks) (length entries) text
+        (x : Item) (rest : List ℕ) → one s ≡ parsed x rest
+        → reads_on one (front n now ++ (x ∷ [])) (length entries - (n + 1)) rest ≡ spaced_read one (length entries) text
     pairs_more x rest pair =
-        sym (ap (λ (p : Parse Item). next p (λ x r. reads_on (entry_read marks) (front n now ++ (x ∷ [])) (length entries - (n + 1)) r)) pair) ∙ on
+        sym (ap (λ (p : Parse Item). next p (λ x r. reads_on one (front n now ++ (x ∷ [])) (length entries - (n + 1)) r)) pair) ∙ on

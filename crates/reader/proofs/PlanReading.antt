@@ -62,12 +62,14 @@ module _ (text packed rest : List ℕ) (n : ℕ) (first_is : FirstRead text rest
   module _ {copies counts copies' counts' : List ℕ} (after : List ℕ) where
     -- A disk line is refused.
     pub plan_no_disk :
-        (lines : ℕ) (disks : List Disk) (entry exit : Tables)
-        → DisksRead rest after rack copies counts copies' counts' (Err (record { lines = lines }))
-        → Judged (lines_judged (plan_read text)) disks entry exit (Err (Line (lines + 2)))
-    plan_no_disk lines disks entry exit read =
-        refused_at_lem text disks entry exit (suc lines) (lines + 2)
-        (rack_read_lem ∙ ap (joined (with_rack rack)) read.stopped) (omega arith)
+        (e : Refusal) (disks : List Disk) (entry exit : Tables)
+        → DisksRead rest after rack copies counts copies' counts' (Err e)
+        → Judged (lines_judged (plan_read text)) disks entry exit (Err e)
+    plan_no_disk e disks entry exit read =
+        let s = read.stopped in
+        rw s.named
+        (refused_at_lem text disks entry exit (suc s.fit) (2 + s.fit)
+        (rack_read_lem ∙ ap (joined (with_rack rack)) s.reads) (omega arith))
 
     module _ (sum : ℕ) (disks_fit : DisksRead rest after rack copies counts copies' counts' (Ok sum)) where
       fit : DisksFit rest after rack copies counts copies' counts' sum
@@ -86,16 +88,18 @@ module _ (text packed rest : List ℕ) (n : ℕ) (first_is : FirstRead text rest
 
       -- A line behind the disks is refused.
       pub plan_no_tail :
-          (left left' : List ℕ) (lines : ℕ) (disks : List Disk) (entry exit : Tables)
-          → TailRead after sum left left' (Err (record { lines = lines }))
-          → Judged (lines_judged (plan_read text)) disks entry exit (Err (Line (n + lines + 2)))
-      plan_no_tail left left' lines disks entry exit read =
-          refused_at_lem text disks entry exit (suc (length found_copies + lines)) (n + lines + 2)
-          (disks_read ∙ ap behind read.stopped)
-          (omega (arith, length-map fit.layout (map copy_of), fit.filled.number, rack_count))
+          (left left' : List ℕ) (e : Refusal) (disks : List Disk) (entry exit : Tables)
+          → TailRead (n + 2) after sum left left' (Err e)
+          → Judged (lines_judged (plan_read text)) disks entry exit (Err e)
+      plan_no_tail left left' e disks entry exit read =
+          let s = read.stopped in
+          rw s.named
+          (refused_at_lem text disks entry exit (suc (length found_copies + s.fit)) (n + 2 + s.fit)
+          (disks_read ∙ ap behind s.reads)
+          (omega (arith, length-map fit.layout (map copy_of), fit.filled.number, rack_count)))
 
       -- All lines fit: the plan of the text, with the pairs that the tables hold.
-      module _ (left left' : List ℕ) (tail : PairsLine) (tail_read : TailRead after sum left left' (Ok tail)) (wide : length left' ≡ length left) where
+      module _ (left left' : List ℕ) (tail : PairsLine) (tail_read : TailRead (n + 2) after sum left left' (Ok tail)) (wide : length left' ≡ length left) where
         abbrev xs : List Item
         xs = front tail.count left'
 

@@ -7,7 +7,8 @@ use Rattle.placement.specs.Method.{served}
 use Rattle.placement.specs.Tables.{own_tables, places, written}
 use Rattle.plan_text.specs.Reading.{Reading, whole, refused_after, Tail, read_disks, read_left}
 use Rattle.plan_text.specs.Capped.{saturated}
-use Rattle.reader.specs.declared.answer.Misfit.{Misfit}
+use Rattle.refusal.specs.declared.Refusal.{Refusal}
+use Rattle.reader.specs.Cursor.{RefusedAt}
 
 -- Tables of zeros for the largest rack, and a rack that is accepted.
 pub record DisksReady (rack : List Disk) (copies counts : List ℕ) : Type 0 where
@@ -39,7 +40,6 @@ pub record DisksFit (text rest : List ℕ) (rack : List Disk) (copies counts cop
   pub reads : disks_at text rack ≡ prefixed (map (map copy_of) layout) (read_left saturated sum rest)
 
 -- The disk lines fit, or one of them is refused.
-pub record DisksRead (text rest : List ℕ) (rack : List Disk) (copies counts copies' counts' : List ℕ) (r : Result ℕ Misfit) : Type 0 where
+pub record DisksRead (text rest : List ℕ) (rack : List Disk) (copies counts copies' counts' : List ℕ) (r : Result ℕ Refusal) : Type 0 where
   pub fit : IfOk r (λ sum. DisksFit text rest rack copies counts copies' counts' sum)
-  pub few : IfErr r (λ m. m.lines ≤ length rack)
-  pub stopped : IfErr r (λ m. disks_at text rack ≡ refused_after m.lines)
+  pub stopped : IfErr r (λ e. RefusedAt 2 (disks_at text rack) e)

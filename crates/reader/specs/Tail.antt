@@ -1,11 +1,12 @@
 -- What the left line, the served line and the end of the text are, where the left films stand at the front of a slice.
-use Rattle.std.specs.Prelude.{ℕ, ◌≤◌, ◌≡◌, List, [], Result, IfOk, IfErr}
+use Rattle.std.specs.Prelude.{ℕ, ◌≡◌, List, [], Result, IfOk, IfErr}
 use Rattle.placement.specs.Items.{total}
 use Rattle.placement.specs.Held.{front}
-use Rattle.plan_text.specs.Reading.{Reading, whole, refused_after, Tail, read_left}
+use Rattle.plan_text.specs.Reading.{Reading, whole, Tail, read_left}
 use Rattle.plan_text.specs.Capped.{saturated}
-use Rattle.reader.specs.declared.answer.Misfit.{Misfit}
+use Rattle.refusal.specs.declared.Refusal.{Refusal}
 use Rattle.reader.specs.declared.line.PairsLine.{PairsLine}
+use Rattle.reader.specs.Cursor.{RefusedAt}
 use Rattle.reader.specs.Pairs.{Stored}
 
 -- What a text says behind the disks, which serve s.
@@ -19,7 +20,6 @@ pub record TailFit (text : List ℕ) (s : ℕ) (left left' : List ℕ) (l : Pair
   pub reads : tail_at text s ≡ whole (record { copies = []; left = front l.count left' })
 
 -- The lines fit and end the text, or one of them is refused.
-pub record TailRead (text : List ℕ) (s : ℕ) (left left' : List ℕ) (r : Result PairsLine Misfit) : Type 0 where
+pub record TailRead (first : ℕ) (text : List ℕ) (s : ℕ) (left left' : List ℕ) (r : Result PairsLine Refusal) : Type 0 where
   pub fit : IfOk r (λ l. TailFit text s left left' l)
-  pub few : IfErr r (λ m. m.lines ≤ 2)
-  pub stopped : IfErr r (λ m. tail_at text s ≡ refused_after m.lines)
+  pub stopped : IfErr r (λ e. RefusedAt first (tail_at text s) e)

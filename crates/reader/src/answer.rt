@@ -8,9 +8,3 @@ pub struct PlanRead {
     pub unserved: u64,
     pub left: u32,
 }
-
-// A text's line that doesn't fit: how many of the lines before it, of those read here, do.
-#[derive(Clone, Copy)]
-pub struct Misfit {
-    pub lines: u32,
-}

@@ -2,9 +2,9 @@
 ghost use Rattle.placement.specs.Packed.{disks_in};
 ghost use Rattle.reader.specs.Disks.{DisksReady, DisksRead};
 
-use crate::answer::Misfit;
 use crate::cursor::Cursor;
 use placement::disk_slots;
+use refusal::Refusal;
 
 impl<'a> Cursor<'a> {
     // Reads the lines of all disks: what they serve; each disk's copies are stored from its first place on.
@@ -13,20 +13,20 @@ impl<'a> Cursor<'a> {
         rack: &[u64],
         copies: &mut [u64],
         counts: &mut [u32],
-    ) -> Result<u64, Misfit>
+    ) -> Result<u64, Refusal>
         requires { DisksReady (disks_in rack.now) copies.old counts.old }
         ensures { DisksRead self.old self.new (disks_in rack.now) copies.old counts.old
             copies.new counts.new result }
     {
         let mut served = 0u64;
         let mut from = 0usize;
-        for disk in 0..rack.len() {
-            let to = from + disk_slots(rack[disk]).0 as usize;
-            let Some(line) = self.disk_line(disk as u32 + 1, rack[disk], &mut copies[from..to])
-            else {
-                return Err(Misfit { lines: disk as u32 });
+        for (i, disk) in rack.iter().enumerate() {
+            let number = i as u32 + 1;
+            let to = from + disk_slots(*disk).0 as usize;
+            let Some(line) = self.disk_line(number, *disk, &mut copies[from..to]) else {
+                return Err(Refusal::Line(number + 1));
             };
-            counts[disk] = line.count as u32;
+            counts[i] = line.count as u32;
             served += line.sum;
             from = to;
         }

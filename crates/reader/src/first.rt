@@ -1,24 +1,13 @@
 // The first line, in either form: the rack is stored as packed disks.
-ghost use Rattle.std.specs.Prelude.{◌≡◌, map, ◌≤◌, length, replicate};
+ghost use Rattle.std.specs.Prelude.{◌≡◌, map, length};
 ghost use Rattle.placement.specs.Rack.{most_disks};
-ghost use Rattle.placement.specs.Tables.{item_in, written};
+ghost use Rattle.placement.specs.Tables.{item_in};
 ghost use Rattle.plan_text.specs.Reading.{mixed_accepted};
 ghost use Rattle.reader.specs.First.{MixedRead, FirstRead};
 
 use crate::cursor::Cursor;
+use crate::pairs::Pair;
 use placement::disk_of;
-
-// One number in the first n places.
-fn fill(number: u64, n: usize, places: &mut [u64])
-    requires { n ≤ length places.old }
-    ensures { places.new ≡ written (replicate n number) places.old }
-{
-    let mut i = 0;
-    while i < n {
-        places[i] = number;
-        i += 1;
-    }
-}
 
 // Whether disks stand in a mixed line: they are accepted, and they differ.
 fn mixed_accepted(rack: &[u64]) -> bool
@@ -37,7 +26,7 @@ impl<'a> Cursor<'a> {
         ensures { MixedRead self.old self.new rack.old rack.new result }
     {
         self.eat_all(b"(mixed")?;
-        let count = self.pairs(rack, false)?;
+        let count = self.listed::<Pair>(rack)?;
         let accepted = mixed_accepted(&rack[..count]);
         self.end_line(accepted)?;
         Some(count as u32)
@@ -53,7 +42,7 @@ impl<'a> Cursor<'a> {
             return self.mixed_line(rack);
         };
         *self = equal;
-        fill(disk_of(said.slots, said.streams), said.disks as usize, rack);
+        rack[..said.disks as usize].fill(disk_of(said.slots, said.streams));
         Some(said.disks)
     }
 }

@@ -2,15 +2,15 @@
 #![tactic(auto)]
 
 mod answer; // answer.rt: what reading answers where it does not refuse
-mod call; // call.rt: a call, with tables to work in
+mod call; // call.rt: the judgement of a text, and of what is lent for its plan
 mod class; // class.rt: the classes of bytes
 mod cursor; // cursor.rt: the bytes that are not read yet, and steps over them
 mod disks; // disks.rt: the lines of all disks
 mod first; // first.rt: the first line, in either form
 mod line; // line.rt: each kind of line
 mod pairs; // pairs.rt: the pairs of a line
-mod plan; // plan.rt: the whole text
-mod tables; // tables.rt: storing a plan in lent tables
+mod plan; // plan.rt: a plan of one's own, and the lines that are read into it
+mod tables; // tables.rt: storing the plan in what is lent
 mod tail; // tail.rt: the lines behind the disks
 
 ghost use Rattle.std.specs.Prelude.{◌≡◌, OnErr};
@@ -20,7 +20,8 @@ ghost use Rattle.reader.specs.Answers.{numbers_of};
 ghost use Rattle.reader.specs.Promise.{ReadPromise, JudgePromise};
 
 pub use answer::PlanRead;
-use call::{judge, read_through};
+use placement::LentTables;
+use plan::OwnPlan;
 use refusal::Refusal;
 
 // Reads a text: its plan is stored in the lent list of packed disks and the lent tables, or a refusal changes none of them.
@@ -38,30 +39,24 @@ pub fn read(
     ensures unchanged { OnErr result
         (tables copies.new counts.new left.new ≡ tables copies.old counts.old left.old) }
 {
-    let mut workrack = [0u64; 64];
-    let mut workcopies = [0u64; 2048];
-    let mut workcounts = [0u32; 64];
-    let mut workleft = [0u64; 1024];
-    read_through(
-        text,
-        rack,
+    let mut plan = OwnPlan::new();
+    let read = plan.judge(text)?;
+    let mut lent = LentTables {
         copies,
         counts,
         left,
-        &mut workrack,
-        &mut workcopies,
-        &mut workcounts,
-        &mut workleft,
-    )
+    };
+    if !plan.has_room(read, rack, &lent) {
+        return Err(Refusal::TablesTooShort);
+    }
+    plan.store(read, rack, &mut lent);
+    Ok(read)
 }
 
 // Judges a text with nothing lent, so that it is never refused by 7.
 pub fn judge_text(text: &[u8]) -> Result<PlanRead, Refusal>
     ensures { JudgePromise text.now (numbers_of result) }
 {
-    let mut rack = [0u64; 64];
-    let mut copies = [0u64; 2048];
-    let mut counts = [0u32; 64];
-    let mut left = [0u64; 1024];
-    judge(text, &mut rack, &mut copies, &mut counts, &mut left)
+    let mut plan = OwnPlan::new();
+    plan.judge(text)
 }

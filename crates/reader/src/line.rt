@@ -10,6 +10,7 @@ ghost use Rattle.reader.specs.Cursor.{parse_of, parse_by};
 ghost use Rattle.reader.specs.Line.{line_end, sizes, LineRead, DiskRead};
 
 use crate::cursor::Cursor;
+use crate::pairs::{Pair, StoredCopy};
 use placement::{Rack, Slots, Streams, disk_slots, disk_streams};
 
 // How many pairs a line has, and what they sum to.
@@ -70,8 +71,8 @@ impl<'a> Cursor<'a> {
         ensures { DiskRead number (disk_in «disk») self.old self.new copies.old copies.new result }
     {
         self.eat_all(b"(disk ")?;
-        self.eat_number(number as u64)?;
-        let count = self.pairs(copies, true)?;
+        self.eat_number(u64::from(number))?;
+        let count = self.listed::<StoredCopy>(copies)?;
         let sum = well_formed::total(&copies[..count]);
         let slots = disk_slots(disk);
         let streams = disk_streams(disk);
@@ -86,7 +87,7 @@ impl<'a> Cursor<'a> {
         ensures { LineRead left_head left_accepted self.old self.new left.old left.new result }
     {
         self.eat_all(b"(left")?;
-        let count = self.pairs(left, false)?;
+        let count = self.listed::<Pair>(left)?;
         let sum = well_formed::total(&left[..count]);
         let accepted = well_formed::left_accepted(&left[..count]);
         self.end_line(accepted)?;

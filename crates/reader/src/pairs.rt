@@ -4,10 +4,57 @@ ghost use Rattle.placement.specs.Items.{item};
 ghost use Rattle.plan_text.specs.Parse.{pair_start, parsed, next};
 ghost use Rattle.plan_text.specs.Capped.{saturated};
 ghost use Rattle.reader.specs.Cursor.{parse_by};
-ghost use Rattle.reader.specs.Pairs.{halves_end, entry_read, PairsRead};
+ghost use Rattle.reader.specs.Pairs.{halves_end, PairsRead};
 
 use crate::cursor::Cursor;
 use placement::{MARK, MOST_PLAN_FILM, entry_of};
+
+// What a line lists in its brackets.
+pub trait Listed {
+    ghost use Rattle.std.specs.Prelude.{◌≡◌, ℕ, List};
+    ghost use Rattle.placement.specs.Items.{Item, item};
+    ghost use Rattle.plan_text.specs.Parse.{Parse};
+    ghost use Rattle.reader.specs.Cursor.{parse_by};
+
+    // how one is read from the front of a text
+    ghost reads: { List ℕ → Parse Item };
+
+    // Reads one: the low and the high half of its entry.
+    fn read(cursor: &mut Cursor) -> Option<(u32, u32)>
+        ensures { parse_by (λ p. item p.0 p.1) result cursor.new ≡ reads cursor.old };
+}
+
+// Two numbers.
+pub struct Pair;
+
+impl Listed for Pair {
+    ghost use Rattle.plan_text.specs.Parse.{pair};
+    ghost use Rattle.plan_text.specs.Capped.{saturated};
+
+    ghost reads = { pair saturated };
+
+    fn read(cursor: &mut Cursor) -> Option<(u32, u32)> {
+        let (film, amount) = cursor.pair_start()?;
+        cursor.eat(b')')?;
+        Some((film, amount))
+    }
+}
+
+// A film and its viewers, where the film may be marked as held.
+pub struct StoredCopy;
+
+impl Listed for StoredCopy {
+    ghost use Rattle.reader.specs.Pairs.{halves_read};
+
+    ghost reads = { halves_read };
+
+    #[tactic(auto, using(crate::proofs::CopyEnds::halves_parts))]
+    fn read(cursor: &mut Cursor) -> Option<(u32, u32)> {
+        let (film, viewers) = cursor.pair_start()?;
+        let low = cursor.copy_end(film, viewers)?;
+        Some((low, viewers))
+    }
+}
 
 impl<'a> Cursor<'a> {
     // Reads the two numbers of a pair.
@@ -36,23 +83,9 @@ impl<'a> Cursor<'a> {
         Some(film + MARK)
     }
 
-    // Reads a pair, or where marks are allowed a copy: the low and the high half of its entry.
-    #[tactic(auto, using(crate::proofs::CopyEnds::halves_parts))]
-    fn pair(&mut self, marks: bool) -> Option<(u32, u32)>
-        ensures { parse_by (λ p. item p.0 p.1) result self.new ≡ entry_read marks self.old }
-    {
-        let (film, amount) = self.pair_start()?;
-        if marks {
-            let low = self.copy_end(film, amount)?;
-            return Some((low, amount));
-        }
-        self.eat(b')')?;
-        Some((film, amount))
-    }
-
-    // Reads pairs or copies up to the line's closing bracket, as many as there are places, and stores them from the front.
-    pub(crate) fn pairs(&mut self, entries: &mut [u64], marks: bool) -> Option<usize>
-        ensures { PairsRead marks self.old self.new entries.old entries.new result }
+    // Reads what a line lists up to its closing bracket, as much as there are places, and stores the entries from the front.
+    pub(crate) fn listed<L: Listed>(&mut self, entries: &mut [u64]) -> Option<usize>
+        ensures { PairsRead L.reads self.old self.new entries.old entries.new result }
     {
         let mut here = self.fork();
         for n in 0..entries.len() {
@@ -61,8 +94,8 @@ impl<'a> Cursor<'a> {
                 *self = here;
                 return Some(n);
             }
-            let (film, amount) = here.pair(marks)?;
-            entries[n] = entry_of(film, amount);
+            let (low, high) = L::read(&mut here)?;
+            entries[n] = entry_of(low, high);
         }
         here.eat(b')')?;
         *self = here;

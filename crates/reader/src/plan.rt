@@ -1,45 +1,53 @@
-// The whole text of a plan.
-ghost use Rattle.std.specs.Prelude.{◌≡◌, length};
-ghost use Rattle.placement.specs.Rack.{most_disks};
+// A plan of one's own, and the lines of a text that are read into it.
+ghost use Rattle.std.specs.Prelude.{◌≡◌};
 ghost use Rattle.placement.specs.Packed.{disks_in};
-ghost use Rattle.placement.specs.Tables.{tables, own_tables};
+ghost use Rattle.placement.specs.Tables.{own_tables};
 ghost use Rattle.plan_text.specs.Reading.{plan_read};
 ghost use Rattle.plan_text.specs.ReadCall.{lines_judged};
-ghost use Rattle.reader.specs.Pass.{Judged};
+ghost use Rattle.reader.specs.Pass.{Judged, holds};
 
 use crate::answer::PlanRead;
 use crate::cursor::Cursor;
+use placement::PlanTables;
 use refusal::Refusal;
 
-// The plan of a text, read line by line into 64 packed disks and tables of zeros, or the number of the first line that does not fit.
-pub(crate) fn read_lines(
-    text: &[u8],
-    rack: &mut [u64],
-    copies: &mut [u64],
-    counts: &mut [u32],
-    left: &mut [u64],
-) -> Result<PlanRead, Refusal>
-    requires { (length rack.old ≡ most_disks) × (tables copies.old counts.old left.old ≡ own_tables) }
-    ensures { Judged (lines_judged (plan_read text.now)) (disks_in rack.new)
-        (tables copies.old counts.old left.old)
-        (tables copies.new counts.new left.new) result }
-{
-    let mut cursor = Cursor::new(text);
-    let Some(disks) = cursor.first_line(rack) else {
-        return Err(Refusal::Line(1));
-    };
-    let served = match cursor.disk_lines(&rack[..disks as usize], copies, counts) {
-        Ok(served) => served,
-        Err(misfit) => return Err(Refusal::Line(misfit.lines + 2)),
-    };
-    let tail = match cursor.tail_lines(served, left) {
-        Ok(tail) => tail,
-        Err(misfit) => return Err(Refusal::Line(disks + misfit.lines + 2)),
-    };
-    Ok(PlanRead {
-        disks,
-        served,
-        unserved: tail.sum,
-        left: tail.count as u32,
-    })
+// Packed disks and tables with room for the largest plan.
+#[derive(Drop)]
+pub struct OwnPlan {
+    pub rack: [u64; 64],
+    pub tables: PlanTables,
+}
+
+impl OwnPlan {
+    // Zeros, into which a text may be read.
+    pub(crate) fn new() -> OwnPlan
+        ensures { holds result ≡ own_tables }
+    {
+        OwnPlan {
+            rack: [0; 64],
+            tables: PlanTables::new(),
+        }
+    }
+
+    // Reads a plan line by line, or refuses the first line that does not fit.
+    pub(crate) fn read_lines(&mut self, text: &[u8]) -> Result<PlanRead, Refusal>
+        requires { holds self.old ≡ own_tables }
+        ensures { Judged (lines_judged (plan_read text.now)) (disks_in self.new.rack)
+            (holds self.old) (holds self.new) result }
+    {
+        let mut cursor = Cursor::new(text);
+        let Some(disks) = cursor.first_line(&mut self.rack) else {
+            return Err(Refusal::Line(1));
+        };
+        let rack = &self.rack[..disks as usize];
+        let tables = &mut self.tables;
+        let served = cursor.disk_lines(rack, &mut tables.copies, &mut tables.counts)?;
+        let tail = cursor.tail_lines(disks + 2, served, &mut tables.left)?;
+        Ok(PlanRead {
+            disks,
+            served,
+            unserved: tail.sum,
+            left: tail.count as u32,
+        })
+    }
 }

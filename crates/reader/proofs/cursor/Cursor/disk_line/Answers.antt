@@ -21,7 +21,7 @@ pub returns-in_err-count : goal.returns-in_err-count
 returns-in_err-count c =
     let a = c.args in
     let r = c.from_residual-in_err-count.result in
-    let read : parse_by (λ l. map copy_of (front l.count c.pairs.new.entries)) r c.pairs.new.self
+    let read : parse_by (λ l. map copy_of (front l.count c.listed.new.entries)) r c.listed.new.self
     ≡ disk_pieces a.number (disk_in a.disk) (length a.copies.now) a.self.now = search rules in
     record {
       reads = read ∙ disk_parts a.number (disk_in a.disk) (length a.copies.now) a.self.now;
@@ -32,11 +32,11 @@ pub returns-in_err-end_line : goal.returns-in_err-end_line
 returns-in_err-end_line c =
     let a = c.args in
     let r = c.from_residual-in_err-end_line.result in
-    let xs = front c.in_ok-count.count c.pairs.new.entries in
+    let xs = front c.in_ok-count.count c.listed.new.entries in
     let tested : c.disk_accepted-storable.result ≡ copies_accepted (disk_in a.disk) (map copy_of xs) =
     c.disk_accepted-storable.ensures
     ∙ ap₂ (λ (k l : ℕ). copies_accepted (disk k l) (map copy_of xs)) c.disk_slots-slots.ensures c.disk_streams-streams.ensures in
-    let read : parse_by (λ l. map copy_of (front l.count c.pairs.new.entries)) r c.end_line.new.self
+    let read : parse_by (λ l. map copy_of (front l.count c.listed.new.entries)) r c.end_line.new.self
     ≡ disk_pieces a.number (disk_in a.disk) (length a.copies.now) a.self.now = search rules in
     record {
       reads = read ∙ disk_parts a.number (disk_in a.disk) (length a.copies.now) a.self.now;
@@ -47,8 +47,8 @@ pub returns : goal.returns
 returns c =
     let a = c.args in
     let n : ℕ = c.in_ok-count.count in
-    let xs = front n c.pairs.new.entries in
-    let few : length c.pairs.new.entries ≤ 4294967296 = omega (arith, c.pairs.auto.entries, c.requires) in
+    let xs = front n c.listed.new.entries in
+    let few : length c.listed.new.entries ≤ 4294967296 = omega (arith, c.listed.auto.entries, c.requires) in
     let tested : c.disk_accepted-storable.result ≡ copies_accepted (disk_in a.disk) (map copy_of xs) =
     c.disk_accepted-storable.ensures
     ∙ ap₂ (λ (k l : ℕ). copies_accepted (disk k l) (map copy_of xs)) c.disk_slots-slots.ensures c.disk_streams-streams.ensures in
@@ -58,10 +58,10 @@ returns c =
       reads = read ∙ disk_parts a.number (disk_in a.disk) (length a.copies.now) a.self.now;
       held = record {
         stored = search rules;
-        summed = c.total-sum.ensures.plain (omega (arith, few, length-map (take n c.pairs.new.entries) item_in, length-take n c.pairs.new.entries));
+        summed = c.total-sum.ensures.plain (omega (arith, few, length-map (take n c.listed.new.entries) item_in, length-take n c.listed.new.entries));
         passed =
             sym tested
-            ∙ line_end_passed c.disk_accepted-storable.result c.pairs.new.self c.end_line.new.self
+            ∙ line_end_passed c.disk_accepted-storable.result c.listed.new.self c.end_line.new.self
             (search rules);
       };
     }

@@ -20,4 +20,4 @@ returns c =
     let k = c.rack_line in
     let said : parsed (sizes c.in-Some.said) k.new.self ≡ line (rack_body saturated) sizes_accepted a.self.now = search rules in
     equal_first a.self.now k.new.self (sizes c.in-Some.said) said c.disk_of.result
-    a.rack.now c.fill.new.places c.disk_of.ensures.result_value c.fill.ensures
+    a.rack.now _ c.disk_of.ensures.result_value (search rules)
