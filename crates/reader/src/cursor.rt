@@ -9,9 +9,6 @@ ghost use Rattle.reader.specs.Cursor.{parse_of};
 use crate::class::{is_digit, is_foreign};
 use std::marker::Model;
 
-// The largest number that is told apart from larger ones.
-const MOST: u64 = 4_294_967_295;
-
 // The bytes of a text that are not read yet.
 #[derive(Drop)]
 pub struct Cursor<'a> {
@@ -32,7 +29,7 @@ fn with_digit(value: u32, digit: u8) -> u32
     ensures { result ≡ saturated (value * 10 + digit) }
 {
     let longer = u64::from(value) * 10 + u64::from(digit);
-    longer.min(MOST) as u32
+    u32::try_from(longer).unwrap_or(u32::MAX)
 }
 
 impl<'a> Cursor<'a> {

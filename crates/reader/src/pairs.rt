@@ -88,14 +88,14 @@ impl<'a> Cursor<'a> {
         ensures { PairsRead L.reads self.old self.new entries.old entries.new result }
     {
         let mut here = self.fork();
-        for n in 0..entries.len() {
+        for (n, entry) in entries.iter_mut().enumerate() {
             if here.eat(b' ').is_none() {
                 here.eat(b')')?;
                 *self = here;
                 return Some(n);
             }
             let (low, high) = L::read(&mut here)?;
-            entries[n] = entry_of(low, high);
+            *entry = entry_of(low, high);
         }
         here.eat(b')')?;
         *self = here;

@@ -30,11 +30,9 @@ returns-clause-promise c =
     let a = c.args in
     let entry = tables a.copies.now a.counts.now a.left.now in
     let own = c.judge.new.self in
-    let exit = tables c.copies-2-1.given.0 c.counts-2-1.given.0 c.left-2-1.given.0 in
-    let same : exit ≡ held c.store.new.lent = search rules in
     call_stored a.text.now a.rack.now entry own.rack (holds c.new-plan.result) (holds own) c.in_ok-read.read c.in_ok-read.ensures
-    c.store.new.rack exit
-    (sym c.has_room.ensures ∙ c.if-not-has_room.false) c.store.ensures.rack (same ∙ c.store.ensures.held)
+    c.store.new.rack _
+    (sym c.has_room.ensures ∙ c.if-not-has_room.false) c.store.ensures.rack (search rules)
 
 pub has_room-requires : goal.has_room-requires
 has_room-requires c =
@@ -63,11 +61,3 @@ store-requires-clause-films c =
     let entry = tables a.copies.now a.counts.now a.left.now in
     let own = c.judge.new.self in
     work_left a.text.now a.rack.now entry own.rack (holds c.new-plan.result) (holds own) c.in_ok-read.read c.in_ok-read.ensures
-
-pub store-requires-clause-rack_room : goal.store-requires-clause-rack_room
-store-requires-clause-rack_room c =
-    let a = c.args in
-    let entry = tables a.copies.now a.counts.now a.left.now in
-    let read = c.in_ok-read.read in
-    leb-true read.disks (length a.rack.now)
-    (both_true _ (room_for (disks_read read c.judge.new.self) read.left entry) (sym c.has_room.ensures ∙ c.if-not-has_room.false)).0

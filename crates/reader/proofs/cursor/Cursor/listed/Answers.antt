@@ -2,21 +2,13 @@
 use Rattle.std.proofs.Common.{rules, ◌≡◌, ◌∙◌, ap, List, ℕ, length, ◌<◌, ◌-◌, ◌+◌}
 use native.Mathlib.Omega.{arith}
 use lib.ListN.{set, length-set}
+use Rattle.std.proofs.lemmas.List.{set-get_or}
 use Rattle.placement.specs.Items.{Item, item}
 use Rattle.placement.specs.Held.{front}
 use Rattle.plan_text.specs.Parse.{parsed, unparsed, byte}
-use Rattle.reader.proofs.PairLists.{reads_on, pairs_no_end, pairs_end, pairs_no_pair, pairs_more}
+use Rattle.reader.proofs.PairLists.{reads_on, pairs_end, pairs_more}
 use Rattle.reader.proofs.StoredPairs.{front_more, kept_more}
 use Rattle.reader.proofs.cursor.Cursor.listed.Goals as goal
-
-pub returns-in_err-eat : goal.returns-in_err-eat
-returns-in_err-eat g c =
-    let a = c.args in
-    let l = c.loop-n in
-    let no_pair : byte 32 l.here ≡ unparsed = search rules in
-    let no_end : byte 41 l.here ≡ unparsed = search rules in
-    pairs_no_end g.L.Listed.reads a.self.now l.here a.entries.now l.entries l.n l.invariant.2 _ c.from_residual.result
-    c.from_residual.ensures no_pair no_end
 
 pub returns-then-is_none : goal.returns-then-is_none
 returns-then-is_none g c =
@@ -24,17 +16,8 @@ returns-then-is_none g c =
     let l = c.loop-n in
     let no_pair : byte 32 l.here ≡ unparsed = search rules in
     let end : byte 41 l.here ≡ parsed tt c.eat-then-is_none.new.self = search rules in
-    pairs_end g.L.Listed.reads a.self.now l.here a.entries.now l.entries l.n l.invariant.2 c.eat-then-is_none.new.self no_pair end l.invariant.1
-
-pub returns-in_err-low : goal.returns-in_err-low
-returns-in_err-low g c =
-    let a = c.args in
-    let l = c.loop-n in
-    let spaced : byte 32 l.here ≡ parsed tt c.eat.new.self = search rules in
-    let no_pair : g.L.Listed.reads c.eat.new.self ≡ unparsed = search rules in
-    let room : l.n < length a.entries.now = omega arith in
-    pairs_no_pair g.L.Listed.reads a.self.now l.here a.entries.now l.entries l.n l.invariant.2 c.eat.new.self spaced room
-    _ c.from_residual-in_err-low.result c.from_residual-in_err-low.ensures no_pair
+    rw (set-get_or l.entries l.n 0)
+    (pairs_end g.L.Listed.reads a.self.now l.here a.entries.now l.entries l.n l.invariant.2 c.eat-then-is_none.new.self no_pair end l.invariant.1)
 
 pub loop-n-preserved : goal.loop-n-preserved
 loop-n-preserved g c =
