@@ -52,7 +52,7 @@ both_unless true b following e = unless_refuses b 7 0 following e
 both_unless false b following e = refl
 
 -- A text with a plan, whose disks were packed to work with.
-module _ (text lent : List ℕ) (entry : Tables) (packed : List ℕ) (work work' : Tables) (r : PlanRead)
+module _ (text packed : List ℕ) {work work' : Tables} {r : PlanRead}
     (judged : Judged (text_verdict text) (disks_in packed) work work' (Ok r)) where
   found : (p : Plan) × (text_verdict text ≡ given p)
   found = found_plan (text_verdict text) (text_numbered text) (sym (ap (λ (n : Numbers Told). n.refusal) judged.numbers))
@@ -93,41 +93,43 @@ module _ (text lent : List ℕ) (entry : Tables) (packed : List ℕ) (work work'
   pub work_left : r.left ≤ most_left
   work_left = omega (arith, left_same, left_count p.left (plan_left p formed))
 
-  abbrev Short : Type 0
-  Short = ReadPromise text (disks_in lent) entry (disks_in lent) entry (numbers_of (Err TablesTooShort))
+  -- The list of disks and the tables that are lent.
+  module _ (lent : List ℕ) (entry : Tables) where
+    abbrev Short : Type 0
+    Short = ReadPromise text (disks_in lent) entry (disks_in lent) entry (numbers_of (Err TablesTooShort))
 
-  short : with_tables (disks_in lent) entry (given p) ≡ refused 7 0 → Short
-  short e =
-      read_short text p found.1 (numbers_of (Ok r)) numbers (disks_in lent) entry (numbers_of (Err TablesTooShort))
-      e refl
+    short : with_tables (disks_in lent) entry (given p) ≡ refused 7 0 → Short
+    short e =
+        read_short text p found.1 (numbers_of (Ok r)) numbers (disks_in lent) entry (numbers_of (Err TablesTooShort))
+        e refl
 
-  -- What is lent has room for it.
-  abbrev enough : Bool
-  enough = leb r.disks (length lent) && room_for rack r.left entry
+    -- What is lent has room for it.
+    abbrev enough : Bool
+    enough = leb r.disks (length lent) && room_for rack r.left entry
 
-  fits_same : leb r.disks (length lent) ≡ leb (length p.rack) (length (disks_in lent))
-  fits_same = ap₂ leb disks_same (sym (disks_length lent))
+    fits_same : leb r.disks (length lent) ≡ leb (length p.rack) (length (disks_in lent))
+    fits_same = ap₂ leb disks_same (sym (disks_length lent))
 
-  -- It has not.
-  pub call_short : enough ≡ false → Short
-  call_short e =
-      short
-      (both_unless (leb (length p.rack) (length (disks_in lent))) (room_for p.rack (length p.left) entry) (given p)
-      (sym (ap₂ ◌&&◌ fits_same (room_same entry)) ∙ e))
+    -- It has not.
+    pub call_short : enough ≡ false → Short
+    call_short e =
+        short
+        (both_unless (leb (length p.rack) (length (disks_in lent))) (room_for p.rack (length p.left) entry) (given p)
+        (sym (ap₂ ◌&&◌ fits_same (room_same entry)) ∙ e))
 
-  -- It has, and the plan is stored.
-  pub call_stored :
-      (lent' : List ℕ) (exit : Tables) → enough ≡ true → lent' ≡ front_copied r.disks packed lent
-      → exit ≡ fronts_copied rack r.left work' entry
-      → ReadPromise text (disks_in lent) entry (disks_in lent') exit (numbers_of (Ok r))
-  call_stored lent' exit e copied_rack stored =
-      let both = both_true (leb r.disks (length lent)) (room_for rack r.left entry) e in
-      read_given text p found.1 (numbers_of (Ok r)) numbers (disks_in lent) entry (disks_in lent') exit (sym fits_same ∙ both.0)
-      (sym (room_same entry) ∙ both.1)
-      (ap disks_in copied_rack
-      ∙ over_disks (take r.disks packed) lent r.disks
-      ∙ ap₂ (λ (ds : List Disk) (n : ℕ). ds ++ drop n (disks_in lent)) rack_same disks_same)
-      (stored
-      ∙ ap₂ (λ (ds : List Disk) (n : ℕ). fronts_copied ds n work' entry) rack_same left_same
-      ∙ ap (λ (t : Tables). fronts_copied p.rack (length p.left) t entry) (judged.tables p found.1)
-      ∙ copied p work entry formed)
+    -- It has, and the plan is stored.
+    pub call_stored :
+        (lent' : List ℕ) (exit : Tables) → enough ≡ true → lent' ≡ front_copied r.disks packed lent
+        → exit ≡ fronts_copied rack r.left work' entry
+        → ReadPromise text (disks_in lent) entry (disks_in lent') exit (numbers_of (Ok r))
+    call_stored lent' exit e copied_rack stored =
+        let both = both_true (leb r.disks (length lent)) (room_for rack r.left entry) e in
+        read_given text p found.1 (numbers_of (Ok r)) numbers (disks_in lent) entry (disks_in lent') exit (sym fits_same ∙ both.0)
+        (sym (room_same entry) ∙ both.1)
+        (ap disks_in copied_rack
+        ∙ over_disks (take r.disks packed) lent r.disks
+        ∙ ap₂ (λ (ds : List Disk) (n : ℕ). ds ++ drop n (disks_in lent)) rack_same disks_same)
+        (stored
+        ∙ ap₂ (λ (ds : List Disk) (n : ℕ). fronts_copied ds n work' entry) rack_same left_same
+        ∙ ap (λ (t : Tables). fronts_copied p.rack (length p.left) t entry) (judged.tables p found.1)
+        ∙ copied p work entry formed)

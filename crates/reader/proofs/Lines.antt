@@ -37,11 +37,6 @@ line_parts body test t =
     next_same (body t) (λ a s. next (byte line_feed s) (λ u r. cond (test a) (parsed a r) unparsed))
     (λ a s. next (line_end (test a) s) (λ u r. parsed a r)) (λ a s. tested a (test a) (byte line_feed s))
 
--- A disk line's head.
-pub disk_head_parts :
-    (number : ℕ) (t : List ℕ) → literal (disk_head number) t ≡ next (literal (ascii "(disk ") t) (λ u s. literal (decimal number) s)
-disk_head_parts number t = literal_append (ascii "(disk ") (decimal number) t
-
 -- The served line, piece by piece.
 abbrev pub served_pieces : (s u : ℕ) → List ℕ → Parse (Unit {0})
 served_pieces s u t =

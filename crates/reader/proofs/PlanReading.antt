@@ -1,10 +1,10 @@
 -- What a whole text says, by what its lines are.
-use mathlib.Core.Path.{◌≡◌, refl, sym, ap, ap₂, ◌∙◌}
+use mathlib.Core.Path.{◌≡◌, refl, sym, ap, ap₂, subst, ◌∙◌}
 use mathlib.Core.Bool.{true}
 use mathlib.Core.List.{List, map, append-nil}
 use Prim.Native.Nat.{ℕ, suc, ◌+◌}
 use native.Mathlib.Omega.{arith}
-use Rattle.std.specs.Prelude.{Some, None, Ok, Err}
+use Rattle.std.specs.Prelude.{Result, Some, None, Ok, Err}
 use lib.ListN.{length, take, length-map}
 use lib.Seq.{length-take-le}
 use Rattle.refusal.specs.Verdict.{given}
@@ -28,7 +28,6 @@ use Rattle.plan_text.proofs.FirstLine.{first_line_lem}
 use Rattle.reader.specs.declared.line.PairsLine.{PairsLine}
 use Rattle.refusal.specs.declared.Refusal.{Refusal}
 use Rattle.reader.specs.declared.answer.PlanRead.{PlanRead}
-use Rattle.std.specs.Prelude.{Result}
 use Rattle.reader.specs.First.{FirstRead}
 use Rattle.reader.specs.Disks.{DisksFit, DisksRead, prefixed, disks_at}
 use Rattle.reader.specs.Tail.{TailRead, tail_at}
@@ -39,13 +38,17 @@ use Rattle.reader.proofs.Judgements.{refused_at_lem, capped}
 
 -- The first line is refused.
 pub plan_no_rack :
-    (text packed rest : List ℕ) (disks : List Disk) (entry exit : Tables) → FirstRead text rest packed None
-    → Judged (lines_judged (plan_read text)) disks entry exit (Err (Line 1))
-plan_no_rack text packed rest disks entry exit first_is =
+    {text start packed rest : List ℕ} {disks : List Disk} {entry exit : Tables}
+    → start ≡ text → FirstRead start rest packed None → Judged (lines_judged (plan_read text)) disks entry exit (Err (Line 1))
+plan_no_rack {text} {start} {packed} {rest} {disks} {entry} {exit} begins read =
+    let first_is : FirstRead text rest packed None = subst (λ (t : List ℕ). FirstRead t rest packed None) begins read in
     refused_at_lem text disks entry exit 0 1
     (sym (capped text) ∙ ap (λ (p : Parse (List Disk)). line_then with_rack p (λ r. read_disks saturated r 1 0)) (sym first_is.reads)) refl
 
-module _ (text packed rest : List ℕ) (n : ℕ) (first_is : FirstRead text rest packed (Some n)) where
+module _ {text start packed rest : List ℕ} {n : ℕ} (begins : start ≡ text) (read : FirstRead start rest packed (Some n)) where
+  first_is : FirstRead text rest packed (Some n)
+  first_is = subst (λ (t : List ℕ). FirstRead t rest packed (Some n)) begins read
+
   -- The rack that the first line says.
   abbrev rack : List Disk
   rack = disks_in (take n packed)
@@ -59,19 +62,19 @@ module _ (text packed rest : List ℕ) (n : ℕ) (first_is : FirstRead text rest
   rack_read_lem : plan_read text ≡ joined (with_rack rack) (disks_at rest rack)
   rack_read_lem = sym (capped text) ∙ ap (λ (p : Parse (List Disk)). line_then with_rack p (λ r. read_disks saturated r 1 0)) (sym first_is.reads)
 
-  module _ {copies counts copies' counts' : List ℕ} (after : List ℕ) where
+  module _ {copies counts copies' counts' after : List ℕ} where
     -- A disk line is refused.
     pub plan_no_disk :
-        (e : Refusal) (disks : List Disk) (entry exit : Tables)
+        {e : Refusal} {disks : List Disk} {entry exit : Tables}
         → DisksRead rest after rack copies counts copies' counts' (Err e)
         → Judged (lines_judged (plan_read text)) disks entry exit (Err e)
-    plan_no_disk e disks entry exit read =
-        let s = read.stopped in
+    plan_no_disk {e} {disks} {entry} {exit} found =
+        let s = found.stopped in
         rw s.named
         (refused_at_lem text disks entry exit (suc s.fit) (2 + s.fit)
         (rack_read_lem ∙ ap (joined (with_rack rack)) s.reads) (omega arith))
 
-    module _ (sum : ℕ) (disks_fit : DisksRead rest after rack copies counts copies' counts' (Ok sum)) where
+    module _ {sum : ℕ} (disks_fit : DisksRead rest after rack copies counts copies' counts' (Ok sum)) where
       fit : DisksFit rest after rack copies counts copies' counts' sum
       fit = disks_fit.fit
 
@@ -88,18 +91,18 @@ module _ (text packed rest : List ℕ) (n : ℕ) (first_is : FirstRead text rest
 
       -- A line behind the disks is refused.
       pub plan_no_tail :
-          (left left' : List ℕ) (e : Refusal) (disks : List Disk) (entry exit : Tables)
+          {left left' : List ℕ} {e : Refusal} {disks : List Disk} {entry exit : Tables}
           → TailRead (n + 2) after sum left left' (Err e)
           → Judged (lines_judged (plan_read text)) disks entry exit (Err e)
-      plan_no_tail left left' e disks entry exit read =
-          let s = read.stopped in
+      plan_no_tail {left} {left'} {e} {disks} {entry} {exit} found =
+          let s = found.stopped in
           rw s.named
           (refused_at_lem text disks entry exit (suc (length found_copies + s.fit)) (n + 2 + s.fit)
           (disks_read ∙ ap behind s.reads)
           (omega (arith, length-map fit.layout (map copy_of), fit.filled.number, rack_count)))
 
       -- All lines fit: the plan of the text, with the pairs that the tables hold.
-      module _ (left left' : List ℕ) (tail : PairsLine) (tail_read : TailRead (n + 2) after sum left left' (Ok tail)) (wide : length left' ≡ length left) where
+      module _ {left left' : List ℕ} {tail : PairsLine} (tail_read : TailRead (n + 2) after sum left left' (Ok tail)) (wide : length left' ≡ length left) where
         abbrev xs : List Item
         xs = front tail.count left'
 
