@@ -1,7 +1,10 @@
 -- What the tests of a call say: the room that its tables have, and when they hold a well-formed plan.
-use Rattle.std.proofs.Common.{◌≡◌, ◌^◌, ◌<◌, ◌≤◌, Bool, true, false, ◌&&◌, leb, length, refl, arith, leb-true}
+use Rattle.std.proofs.Common.{◌≡◌, ◌^◌, ◌<◌, ◌≤◌, Bool, true, false, ◌&&◌, leb, List, length, sym, refl, arith, leb-true}
 use Rattle.placement.specs.Copies.{layout_of}
-use Rattle.placement.specs.Rack.{all_slots, rack_accepted}
+use Rattle.placement.specs.Rack.{Disk, all_slots, rack_accepted}
+use Rattle.placement.specs.Planning.{rack_judged}
+use Rattle.placement.proofs.Chains.{rack_given_lem}
+use Rattle.refusal.specs.Verdict.{given}
 use Rattle.placement.specs.Plan.{well_formed, disks_accepted, all_marks_accepted, left_accepted}
 use Rattle.placement.specs.Held.{left_held}
 use Rattle.placement.proofs.Conjunctions.{both_true}
@@ -16,6 +19,10 @@ regrouped : (u r a m l : Bool) → r ≡ true → (u && (r && (a && (m && l)))) 
 regrouped true r true m l p = rw p
 regrouped true r false m l p = rw p
 regrouped false r a m l p = refl
+
+-- A rack that is judged and not refused is accepted.
+pub rack_passed : (rack : List Disk) → given (tt {0}) ≡ rack_judged rack (given tt) → rack_accepted rack ≡ true
+rack_passed rack e = (rack_given_lem rack (given tt) tt (sym e)).0
 
 module _ (c : WriteCall) where
   -- The tests of the disks, then that of what is left, decide whether the plan is well formed.

@@ -1,8 +1,8 @@
 -- The tables from a disk on: that disk's places, then the tables from the next disk on.
 use Rattle.std.proofs.Common.{◌≡◌, ℕ, zero, suc, ◌+◌, ◌-◌, ◌<◌, ◌≤◌, Bool, true, false, ◌&&◌, leb, List, [], ◌∷◌, ◌++◌, map, length, get_or, take, drop, sym, refl, ap, ◌∙◌, ap₂, add-one, arith, length-drop, drop_of_length-le, take_all, drop-drop, leb-true}
 use Rattle.placement.specs.Copies.{unmarked, layout_of, copy_of}
-use Rattle.placement.specs.Rack.{Disk}
-use Rattle.placement.specs.Tables.{copies_in}
+use Rattle.placement.specs.Rack.{Disk, disk}
+use Rattle.placement.specs.Tables.{tables, copies_in}
 use Rattle.placement.specs.Packed.{disk_in, disks_in}
 use Rattle.placement.specs.Held.{front, copies_from, marked_from}
 use Rattle.placement.specs.Plan.{disk_accepted, disks_accepted, marks_accepted, copies_accepted, all_marks_accepted}
@@ -11,9 +11,11 @@ use Rattle.placement.proofs.Offsets.{offset, disk_at, offset_next, offset_room, 
 use Rattle.placement.proofs.PackedRacks.{disks_length, disk_packed}
 use Rattle.plan_text.specs.Text.{lines, disks_then, disk_line}
 use Rattle.plan_text.specs.Held.{unused_zero, unused_zero_from}
-use Rattle.writer.specs.Call.{disks_formed, CopyRoom}
+use Rattle.writer.specs.Call.{disks_formed, CopyRoom, Stated}
 use Rattle.writer.specs.Space.{disk_lines}
+use Rattle.plan_text.specs.WriteCall.{write_call}
 use Rattle.writer.proofs.Runs.{line_before}
+use Rattle.writer.proofs.Calls.{room_copies}
 
 -- What is lent from a place on is all that stands from there on.
 pub part_from : (xs : List ℕ) (a : ℕ) → take (length xs - a) (drop a xs) ≡ drop a xs
@@ -100,6 +102,18 @@ module _ (rack : List ℕ) (d : ℕ) (more : d < length rack) (k : ℕ) (slots :
           ∙ ap₂ (λ (x : Disk) (s : ℕ). disk_formed x (get_or counts d 0) (drop first copies) && disks_formed (drop (suc d) (disks_in rack)) (drop s (drop first copies)) (drop (suc d) counts)) (disk_packed rack d) slots_here
           ∙ ap (λ (behind : List ℕ). disk_formed (disk_in (get_or rack d 0)) (get_or counts d 0) (drop first copies) && disks_formed (drop (suc d) (disks_in rack)) behind (drop (suc d) counts)) (drop-drop k first copies))
 
+      -- So where the disk's own tests, of its places as they are lent, have an answer.
+      pub formed_step :
+          (load : ℕ) → load ≡ (disk_in (get_or rack d 0)).load → (tested : Bool)
+          → tested ≡ disk_formed (disk k load) (get_or counts d 0) (take (length copies - first) (drop first copies))
+          → disks_formed (drop d (disks_in rack)) (drop first copies) (drop d counts)
+          ≡ (tested && disks_formed (drop (d + 1) (disks_in rack)) (drop (first + k) copies) (drop (d + 1) counts))
+      formed_step load loads tested e =
+          formed_next
+          ∙ ap (λ (b : Bool). b && disks_formed (drop (d + 1) (disks_in rack)) (drop (first + k) copies) (drop (d + 1) counts))
+          (ap₂ (λ (x : Disk) (places : List ℕ). disk_formed x (get_or counts d 0) places) (sym (ap₂ disk slots loads)) (sym (part_from copies first))
+          ∙ sym e)
+
       -- The copies from disk d on: its own, as they are lent, then those from the next disk on.
       pub copies_next :
           marked_from (drop d (disks_in rack)) (drop first copies) (drop d counts)
@@ -122,3 +136,22 @@ module _ (rack : List ℕ) (d : ℕ) (more : d < length rack) (k : ℕ) (slots :
           ap (disk_lines (d + 1)) copies_next
           ∙ ap (λ (number : ℕ). lines (here ∷ disks_then number behind [])) (sym (add-one (d + 1)))
           ∙ sym (line_before here (disks_then (d + 1 + 1) behind []))
+
+-- The copy table has the places of disk d, and the count table one for it.
+pub record DiskRoom (rack copies counts : List ℕ) (d first : ℕ) : Type 0 where
+  pub places : first + (disk_in (get_or rack d 0)).slots ≤ length copies
+  pub counted : d < length counts
+
+pub disk_room :
+    (rack copies counts : List ℕ) → CopyRoom (disks_in rack) copies counts → (d first : ℕ) → d < length rack
+    → first ≡ offset (disks_in rack) d → DiskRoom rack copies counts d first
+disk_room rack copies counts room d first more e = record {
+  places = omega (arith, e, first_room rack d more _ refl copies counts room);
+  counted = count_place rack d more _ refl copies counts room;
+}
+
+-- So for the tables of a stated plan.
+pub stated_room :
+    (rack copies counts left : List ℕ) (films : ℕ) → Stated (write_call (disks_in rack) (tables copies counts left) films)
+    → (d first : ℕ) → d < length rack → first ≡ offset (disks_in rack) d → DiskRoom rack copies counts d first
+stated_room rack copies counts left films stated d first more e = disk_room rack copies counts (room_copies _ stated.room) d first more e

@@ -1,3 +1,4 @@
+pub mod Rests
 pub mod Spaces
 pub mod Runs
 pub mod Calls

@@ -9,7 +9,7 @@ use Rattle.plan_text.specs.RefusalLine.{refusal_end, refusal_text}
 use Rattle.plan_text.proofs.Lengths.{length_10}
 use Rattle.writer.specs.Space.{Put}
 use Rattle.writer.specs.RefusalPromise.{RefusalPromise}
-use Rattle.writer.proofs.Spaces.{put_first, put_length}
+use Rattle.writer.proofs.Spaces.{put_first}
 
 -- Without a second number there is the closing bracket alone.
 pub end_none : (second : ℕ) → second ≡ 0 → (closed ∷ []) ≡ refusal_end second
@@ -53,8 +53,9 @@ module _ (number second : ℕ) (entry : List ℕ) where
 
   -- The line is stored in one that is long enough.
   pub refusal_written :
-      {exit : List ℕ} {next : ℕ} → length (refusal_text number second) < 2 ^ 64 → length (refusal_text number second) ≤ length entry
-      → Put 0 (refusal_text number second) entry exit next → RefusalPromise number second entry exit next
-  refusal_written few room put =
+      {stored exit : List ℕ} {next count : ℕ} → length (refusal_text number second) < 2 ^ 64 → length (refusal_text number second) ≤ length entry
+      → Put 0 (refusal_text number second) entry stored next → exit ≡ stored → count ≡ length (refusal_text number second)
+      → RefusalPromise number second entry exit count
+  refusal_written few room put same counted =
       let tested = le-leb (length (refusal_text number second)) (length entry) room in
-      record { count = put_length put few ∙ sym (cond_true _ _ _ tested); bytes = put_first put few room ∙ sym (cond_true _ _ _ tested) }
+      record { count = counted ∙ sym (cond_true _ _ _ tested); bytes = put_first put few room same ∙ sym (cond_true _ _ _ tested) }

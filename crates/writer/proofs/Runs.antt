@@ -1,7 +1,9 @@
 -- The lines of a text as the runs that the writer stores.
-use Rattle.std.proofs.Common.{◌≡◌, ℕ, zero, suc, ◌+◌, ◌<◌, ◌≤◌, true, false, List, [], ◌∷◌, ◌++◌, map, length, get_or, drop, sym, refl, ap, ◌∙◌, ap₂, append_assoc, add-one, drop_of_length-le, drop-cons}
+use Rattle.std.proofs.Common.{◌≡◌, ℕ, zero, suc, ◌+◌, ◌<◌, ◌≤◌, true, false, List, [], ◌∷◌, ◌++◌, map, length, get_or, take, drop, take_all, arith, sym, refl, ap, ◌∙◌, ap₂, append_assoc, add-one, drop_of_length-le, drop-cons}
+use Rattle.std.proofs.lemmas.Grind.{common_steps}
+use Rattle.std.specs.List.{flat_map}
 use Rattle.placement.specs.Items.{Item}
-use Rattle.placement.specs.Copies.{Copy, copy}
+use Rattle.placement.specs.Copies.{Copy, copy_of}
 use Rattle.placement.specs.Rack.{first_slots, first_load, all_equal}
 use Rattle.placement.specs.Tables.{item_in, copy_in, copies_in}
 use Rattle.placement.specs.Packed.{disk_in, disks_in}
@@ -10,37 +12,36 @@ use Rattle.placement.proofs.Conjunctions.{cond_true, cond_false}
 use Rattle.placement.proofs.PackedRacks.{disks_length, first_slots_lem, first_load_lem}
 use Rattle.plan_text.specs.Ascii.{ascii}
 use Rattle.plan_text.specs.Decimal.{decimal}
-use Rattle.plan_text.specs.Text.{space, closed, line_feed, pair_text, pairs_text, mark_end, copy_text, copies_text, lines, disks_then, rack_line, disk_item, mixed_head, mixed_line, first_line, disk_line, left_line, served_line, text_of}
+use Rattle.plan_text.specs.Text.{space, closed, line_feed, pair_text, pairs_text, mark_end, copy_text, spaced_text, copies_text, lines, disks_then, rack_line, disk_item, mixed_head, mixed_line, first_line, disk_line, left_line, served_line, text_of}
 use Rattle.writer.specs.Space.{two_text, disk_lines}
 
--- What stands from i on is the element at i and what stands from i + 1 on.
-pub drop_next : (l : List ℕ) (i : ℕ) → i < length l → drop i l ≡ get_or l i 0 ∷ drop (i + 1) l
-drop_next l i h = rw (add-one, drop-cons l i 0)
+-- The entries of a line, one behind the other, and the closing bracket.
+spaced_runs : (text : ℕ → List ℕ) (es : List ℕ) → flat_map (λ e. space ∷ text e) es ++ (closed ∷ []) ≡ spaced_text text es
+spaced_runs text [] = refl
+spaced_runs text (x ∷ xs) = rw append_assoc (ap (λ (t : List ℕ). space ∷ (text x ++ t)) (spaced_runs text xs))
 
--- The pairs from i on are the pair at i and the pairs from i + 1 on.
-pub pairs_next :
-    (entries : List ℕ) (i : ℕ) → i < length entries
-    → pairs_text (map item_in (drop i entries)) ≡ (space ∷ pair_text (item_in (get_or entries i 0))) ++ pairs_text (map item_in (drop (i + 1) entries))
-pairs_next entries i h = ap (λ (l : List ℕ). pairs_text (map item_in l)) (drop_next entries i h)
+module _ (text : ℕ → List ℕ) (es : List ℕ) (i : ℕ) where
+  -- One entry more.
+  pub spaced_more :
+      i < length es
+      → flat_map (λ e. space ∷ text e) (take i es) ++ (space ∷ text (get_or es i 0)) ≡ flat_map (λ e. space ∷ text e) (take (i + 1) es)
+  spaced_more h = grind (arith, common_steps)
 
--- Behind the last pair stands the closing bracket.
-pub pairs_end : (entries : List ℕ) (i : ℕ) → length entries ≤ i → closed ∷ [] ≡ pairs_text (map item_in (drop i entries))
-pairs_end entries i h = sym (ap (λ (l : List ℕ). pairs_text (map item_in l)) (drop_of_length-le entries h))
+  -- No entry more.
+  pub spaced_end : length es ≤ i → flat_map (λ e. space ∷ text e) (take i es) ++ (closed ∷ []) ≡ spaced_text text es
+  spaced_end h = rw (take_all i es h) (spaced_runs text es)
 
--- So for copies.
-pub copy_next :
-    (entries : List ℕ) (i : ℕ) → i < length entries
-    → copies_text (copies_in (drop i entries)) ≡ (space ∷ copy_text (copy_in (get_or entries i 0))) ++ copies_text (copies_in (drop (i + 1) entries))
-copy_next entries i h = ap (λ (l : List ℕ). copies_text (copies_in l)) (drop_next entries i h)
+-- Entries stand as what they hold.
+spaced_map :
+    {A B : Type 0} (text : B → List ℕ) (held : A → B) (es : List A) → spaced_text (λ e. text (held e)) es ≡ spaced_text text (map held es)
+spaced_map text held [] = refl
+spaced_map text held (x ∷ xs) = ap (λ (t : List ℕ). space ∷ (text (held x) ++ t)) (spaced_map text held xs)
 
-pub copies_end : (entries : List ℕ) (i : ℕ) → length entries ≤ i → closed ∷ [] ≡ copies_text (copies_in (drop i entries))
-copies_end entries i h = sym (ap (λ (l : List ℕ). copies_text (copies_in l)) (drop_of_length-le entries h))
+pub pairs_runs : (es : List ℕ) → spaced_text (λ e. pair_text (item_in e)) es ≡ pairs_text (map item_in es)
+pairs_runs es = spaced_map pair_text item_in es
 
--- A copy is five runs.
-pub copy_runs :
-    (film viewers mark : ℕ)
-    → ascii " (" ++ (decimal film ++ ((space ∷ []) ++ (decimal viewers ++ mark_end mark))) ≡ space ∷ copy_text (copy film mark viewers)
-copy_runs film viewers mark = refl
+pub copies_runs : (es : List ℕ) → spaced_text (λ e. copy_text (copy_in e)) es ≡ copies_text (copies_in es)
+copies_runs es = spaced_map (λ x. copy_text (copy_of x)) item_in es ∙ spaced_map copy_text copy_of (map item_in es)
 
 -- Without a mark a copy ends in one bracket, else in `held` before it.
 pub mark_none : (mark : ℕ) → mark ≡ 0 → closed ∷ [] ≡ mark_end mark
@@ -60,7 +61,7 @@ pub disk_runs :
 disk_runs n copies = simp append_assoc
 
 -- Packed disks as pairs.
-items_packed : (rack : List ℕ) → map item_in rack ≡ map disk_item (disks_in rack)
+pub items_packed : (rack : List ℕ) → map item_in rack ≡ map disk_item (disks_in rack)
 items_packed [] = refl
 items_packed (n ∷ ns) = ap (λ (xs : List Item). item_in n ∷ xs) (items_packed ns)
 

@@ -10,12 +10,11 @@ use Rattle.placement.specs.Plan.{served_of, unserved_of}
 use Rattle.placement.proofs.Conjunctions.{both_true, false_true}
 use Rattle.placement.proofs.Racks.{accepted_all_slots}
 use Rattle.plan_text.specs.Held.{all_zero, unused_places, unused_zero, unused_zero_from}
-use Rattle.plan_text.specs.WriteCall.{WriteCall, plan_of}
-use Rattle.placement.proofs.Formed.{plan_rack}
+use Rattle.plan_text.specs.WriteCall.{WriteCall, plan_of, well_formed_call}
 use Rattle.placement.proofs.MarkedCopies.{copied_served}
 use Rattle.well_formed.specs.Sum.{Summed}
-use Rattle.writer.specs.Call.{Writable}
-use Rattle.writer.proofs.Calls.{room_copies, room_left, formed_unused, formed_plan}
+use Rattle.writer.specs.Call.{Stated}
+use Rattle.writer.proofs.Calls.{room_copies, room_left, formed_unused}
 
 -- Zero entries sum to zero.
 zeros_sum : (es : List ℕ) → all_zero es ≡ true → total (map item_in es) ≡ 0
@@ -61,19 +60,19 @@ served_sum (d ∷ ds) copies (n ∷ counts) e =
       sum_cut d.slots (all_slots ds) copies,
     )
 
-module _ (c : WriteCall) (w : Writable c) (r : ℕ) where
+module _ (c : WriteCall) (stated : Stated c) (formed : well_formed_call c ≡ true) (r : ℕ) where
   -- The sum over all places of the rack is S.
   pub served_held : (places : ℕ) → all_slots c.rack ≡ places → Summed (front places c.tables.copies) r → r ≡ served_of (plan_of c)
   served_held places same summed =
-      let few = accepted_all_slots c.rack (plan_rack (plan_of c) (formed_plan c w.formed)) in
-      let taken = length-take-le places c.tables.copies (omega (arith, same, (room_copies c w.room).copy_places)) in
+      let few = accepted_all_slots c.rack stated.accepted in
+      let taken = length-take-le places c.tables.copies (omega (arith, same, (room_copies c stated.room).copy_places)) in
       summed.plain (omega (arith, same, few, taken, length-map (take places c.tables.copies) item_in))
       ∙ ap (λ (n : ℕ). total (front n c.tables.copies)) (sym same)
-      ∙ sym (served_sum c.rack c.tables.copies c.tables.counts (formed_unused c w.formed))
+      ∙ sym (served_sum c.rack c.tables.copies c.tables.counts (formed_unused c formed))
       ∙ sym (copied_served (copies_from c.rack c.tables.copies c.tables.counts))
 
   -- The sum over the stated left places is U.
   pub unserved_held : c.left < 2 ^ 32 → Summed (front c.left c.tables.left) r → r ≡ unserved_of (plan_of c)
   unserved_held few summed =
-      let taken = length-take-le c.left c.tables.left (room_left c w.room) in
+      let taken = length-take-le c.left c.tables.left (room_left c stated.room) in
       summed.plain (omega (arith, few, taken, length-map (take c.left c.tables.left) item_in))

@@ -1,4 +1,5 @@
 pub mod Space
+pub mod SpaceLaws
 pub mod Call
 pub mod Shown
 pub mod RefusalPromise

@@ -1,12 +1,12 @@
 // The writer of plan texts: from the lent tables to bytes in the lent space.
 #![tactic(auto)]
 
-mod copies; // copies.rt: the copies of a disk's line
-mod judge; // judge.rt: whether the tables hold a well-formed plan
-mod line; // line.rt: the pairs and lines of a text
-mod number; // number.rt: bytes, words and decimal numbers
+mod entries; // entries.rt: the pairs and the copies of a line
+mod line; // line.rt: the lines of a text
+mod number; // number.rt: words and decimal numbers
 mod refusal_line; // refusal_line.rt: the line of a refusal
-mod text; // text.rt: the whole text of a plan
+mod sink; // sink.rt: what takes the bytes: a lent space, or a count
+mod stated; // stated.rt: a plan as the tables state it, and its text
 
 ghost use Rattle.std.specs.Prelude.{◌≡◌, OnErr};
 ghost use Rattle.placement.specs.Packed.{disks_in};
@@ -15,8 +15,8 @@ ghost use Rattle.plan_text.specs.WriteCall.{write_call};
 ghost use Rattle.writer.specs.Answers.{written_numbers};
 ghost use Rattle.writer.specs.WritePromise.{WritePromise};
 
-use crate::judge::formed;
-use crate::text::{put_text, text_length};
+use crate::sink::{Count, Space};
+use crate::stated::StatedPlan;
 use refusal::Refusal;
 pub use refusal_line::write_refusal;
 
@@ -38,13 +38,22 @@ pub fn write(
     if !placement::room(rack, films as usize, copies.len(), counts.len(), left.len()) {
         return Err(Refusal::TablesTooShort);
     }
-    if !formed(rack, copies, counts, left, films) {
+    let plan = StatedPlan {
+        rack,
+        copies,
+        counts,
+        left,
+        films,
+    };
+    if !plan.is_formed() {
         return Err(Refusal::NotWellFormed);
     }
-    let length = text_length(rack, copies, counts, left, films);
+    let mut count = Count { bytes: 0 };
+    plan.put_text(&mut count);
+    let length = count.bytes;
     if text.len() < length {
         return Err(Refusal::SpaceTooShort);
     }
-    put_text(text, rack, copies, counts, left, films);
+    plan.put_text(&mut Space { out: text, at: 0 });
     Ok(length as u64)
 }

@@ -1,12 +1,11 @@
 -- `line::put_disk` meets its contract: four runs, one behind the other.
-use Rattle.placement.specs.Tables.{copies_in}
-use Rattle.writer.proofs.Spaces.{put_as, put_then}
-use Rattle.writer.proofs.Runs.{disk_runs}
+use Rattle.writer.proofs.Runs.{disk_runs, copies_runs}
 use Rattle.writer.proofs.line.put_disk.Goals as goal
 
 pub returns : goal.returns
-returns c =
-    let a = c.args in
-    put_as (disk_runs a.number (copies_in a.copies.now))
-    (put_then c.put_word-number_at.ensures
-    (put_then c.put_number-copies_at.ensures (put_then c.put_copies-end.ensures c.put_byte.ensures)))
+returns g c =
+    let more = g.met.S.Sink.more in
+    let copies = rw (copies_runs _) at c.put_entries.ensures in
+    rw (← disk_runs _ _)
+    (more _ _ _ _ _ c.put_word.ensures
+    (more _ _ _ _ _ c.put_number.ensures (more _ _ _ _ _ copies c.put_byte.ensures)))

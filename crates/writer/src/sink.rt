@@ -1,0 +1,63 @@
+// What takes the bytes of a text, one after the other: a lent space, or a count of them.
+ghost use Rattle.std.specs.Prelude.{◌≡◌, ℕ, ◌+◌, ◌<◌, ◌^◌, List, [], ◌∷◌, ◌++◌, length};
+ghost use Rattle.writer.specs.Space.{Put};
+
+// What takes the bytes of a text.
+pub(crate) trait Sink {
+    // The second value is the first with these bytes behind it.
+    ghost takes: { Self → List ℕ → Self → Type 0 };
+
+    fn put_byte(&mut self, byte: u8)
+        ensures { takes self.old (byte ∷ []) self.new };
+
+    ghost none: { (s : Self) → takes s [] s };
+
+    // Two runs, one behind the other, are one run.
+    ghost more: { (s t u : Self) (xs ys : List ℕ) → takes s xs t → takes t ys u → takes s (xs ++ ys) u };
+}
+
+// How many bytes a text has.
+#[derive(Clone, Copy, Debug, Default, PartialEq, Eq)]
+pub(crate) struct Count {
+    pub(crate) bytes: usize,
+}
+
+impl Sink for Count {
+    ghost takes = { λ s xs t. s.bytes + length xs < 2 ^ 64 → t.bytes ≡ s.bytes + length xs };
+
+    fn put_byte(&mut self, _byte: u8) {
+        self.bytes = self.bytes.wrapping_add(1);
+    }
+
+    ghost use Rattle.std.proofs.Common.{arith, length-append};
+
+    ghost none = { λ s h. Prim.grind arith };
+
+    ghost more = { λ s t u xs ys p q h. Prim.grind (arith, length-append xs ys) };
+}
+
+// A lent space and the next place in it. Bytes past its end are dropped.
+#[derive(Drop)]
+pub(crate) struct Space<'a> {
+    pub(crate) out: &'a mut [u8],
+    pub(crate) at: usize,
+}
+
+impl<'a> Sink for Space<'a> {
+    ghost takes = { λ s xs t. (t.out.ghost_name ≡ s.out.ghost_name) × Put s.at xs s.out.now t.out.now t.at };
+
+    fn put_byte(&mut self, byte: u8) {
+        if self.at < self.out.len() {
+            self.out[self.at] = byte;
+        }
+        self.at = self.at.wrapping_add(1);
+    }
+
+    ghost use Rattle.std.proofs.Common.{refl, ◌∙◌};
+
+    ghost use Rattle.writer.specs.SpaceLaws.{put_none, put_then};
+
+    ghost none = { λ s. (refl, put_none s.at s.out.now) };
+
+    ghost more = { λ s t u xs ys p q. (q.0 ∙ p.0, put_then p.1 q.1) };
+}
