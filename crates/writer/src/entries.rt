@@ -2,9 +2,8 @@
 ghost use Rattle.std.specs.Prelude.{ℕ, List};
 ghost use Rattle.placement.specs.Tables.{item_in, copy_in};
 ghost use Rattle.plan_text.specs.Text.{pair_text, mark_end, copy_text, spaced_text};
-ghost use Rattle.writer.specs.Space.{two_text};
 
-use crate::number::{put_number, put_word};
+use crate::number::{put_number, put_two, put_word};
 use crate::sink::Sink;
 
 // How an entry of a table stands in a line.
@@ -13,16 +12,6 @@ pub(crate) trait EntryText {
 
     fn put<S: Sink>(sink: &mut S, entry: u64)
         ensures { S.takes sink.old (text entry) sink.new };
-}
-
-// Puts two numbers with a space between them and a closing bracket behind.
-pub(crate) fn put_two<S: Sink>(sink: &mut S, first: u64, second: u64)
-    ensures { S.takes sink.old (two_text first second) sink.new }
-{
-    put_number(sink, first);
-    sink.put_byte(b' ');
-    put_number(sink, second);
-    sink.put_byte(b')');
 }
 
 // An entry of the left table, or a disk: two numbers.

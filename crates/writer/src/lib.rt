@@ -2,11 +2,13 @@
 #![tactic(auto)]
 
 mod entries; // entries.rt: the pairs and the copies of a line
+mod judge; // judge.rt: whether the tables hold a well-formed plan
 mod line; // line.rt: the lines of a text
 mod number; // number.rt: words and decimal numbers
 mod refusal_line; // refusal_line.rt: the line of a refusal
 mod sink; // sink.rt: what takes the bytes: a lent space, or a count
-mod stated; // stated.rt: a plan as the tables state it, and its text
+mod stated; // stated.rt: a plan as the tables state it
+mod text; // text.rt: the whole text of a plan
 
 ghost use Rattle.std.specs.Prelude.{◌≡◌, OnErr};
 ghost use Rattle.placement.specs.Packed.{disks_in};

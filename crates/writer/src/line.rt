@@ -3,8 +3,8 @@ ghost use Rattle.std.specs.Prelude.{[], ◌∷◌, ◌++◌, map};
 ghost use Rattle.placement.specs.Tables.{item_in, copies_in};
 ghost use Rattle.plan_text.specs.Text.{pairs_text, line_feed, lines, rack_line, disk_line, served_line};
 
-use crate::entries::{MarkedCopy, Pair, put_entries, put_two};
-use crate::number::{put_number, put_word};
+use crate::entries::{MarkedCopy, Pair, put_entries};
+use crate::number::{put_number, put_two, put_word};
 use crate::sink::Sink;
 
 // Puts the rack line.

@@ -17,7 +17,7 @@ pub(crate) trait Sink {
 }
 
 // How many bytes a text has.
-#[derive(Clone, Copy, Debug, Default, PartialEq, Eq)]
+#[derive(Drop)]
 pub(crate) struct Count {
     pub(crate) bytes: usize,
 }

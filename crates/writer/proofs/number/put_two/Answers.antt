@@ -1,5 +1,5 @@
--- `entries::put_two` meets its contract: four runs, one behind the other.
-use Rattle.writer.proofs.entries.put_two.Goals as goal
+-- `number::put_two` meets its contract: four runs, one behind the other.
+use Rattle.writer.proofs.number.put_two.Goals as goal
 
 pub returns : goal.returns
 returns g c =
