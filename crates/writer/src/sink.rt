@@ -54,7 +54,6 @@ impl<'a> Sink for Space<'a> {
     }
 
     ghost use Rattle.std.proofs.Common.{refl, ◌∙◌};
-
     ghost use Rattle.writer.specs.SpaceLaws.{put_none, put_then};
 
     ghost none = { λ s. (refl, put_none s.at s.out.now) };

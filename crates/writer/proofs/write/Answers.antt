@@ -1,5 +1,5 @@
 -- `write` meets its contract: at each `return` one law of the verdict says how the call ends.
-use Rattle.std.proofs.Common.{◌≡◌, ℕ, ◌≤◌, true, List, length, sym, refl, ap, rules, arith}
+use Rattle.std.proofs.Common.{◌≡◌, ℕ, ◌≤◌, true, length, sym, refl, ap, rules, arith}
 use Rattle.std.proofs.lemmas.Result.{err_from_is_err_and}
 use Rattle.refusal.specs.Verdict.{given}
 use Rattle.placement.specs.Rack.{rack_accepted}

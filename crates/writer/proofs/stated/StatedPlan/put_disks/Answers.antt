@@ -1,5 +1,5 @@
 -- The lines from disk `d` on, put behind those before it, give the whole.
-use Rattle.std.proofs.Common.{◌≡◌, ℕ, true, sym, refl, subst, arith}
+use Rattle.std.proofs.Common.{◌≡◌, true, sym, refl, subst, arith}
 use Rattle.placement.specs.Packed.{disks_in}
 use Rattle.placement.specs.Tables.{tables}
 use Rattle.plan_text.specs.WriteCall.{WriteCall, write_call, well_formed_call}
@@ -13,8 +13,8 @@ overflow_add-end g c =
     let p = c.self.inside in
     let room = stated_room p.rack.now p.copies.now p.counts.now p.left.now p.films c.self.invariant c.loop-d.d c.loop-d.first c.loop-d-test.true c.loop-d.invariant.0 in
     let within = count_within p.rack.now c.loop-d.d c.loop-d-test.true _ refl p.copies.now p.counts.now
-        (formed_unused (write_call (disks_in p.rack.now) (tables p.copies.now p.counts.now p.left.now) p.films)
-        (subst (λ (k : WriteCall). well_formed_call k ≡ true) (sym c.self.view_is) c.requires)) in
+    (formed_unused (write_call (disks_in p.rack.now) (tables p.copies.now p.counts.now p.left.now) p.films)
+    (subst (λ (k : WriteCall). well_formed_call k ≡ true) (sym c.self.view_is) c.requires)) in
     omega (arith, room.places, within)
 
 pub offset_bounds-self-inside-first : goal.offset_bounds-self-inside-first
@@ -22,8 +22,8 @@ offset_bounds-self-inside-first g c =
     let p = c.self.inside in
     let room = stated_room p.rack.now p.copies.now p.counts.now p.left.now p.films c.self.invariant c.loop-d.d c.loop-d.first c.loop-d-test.true c.loop-d.invariant.0 in
     let within = count_within p.rack.now c.loop-d.d c.loop-d-test.true _ refl p.copies.now p.counts.now
-        (formed_unused (write_call (disks_in p.rack.now) (tables p.copies.now p.counts.now p.left.now) p.films)
-        (subst (λ (k : WriteCall). well_formed_call k ≡ true) (sym c.self.view_is) c.requires)) in
+    (formed_unused (write_call (disks_in p.rack.now) (tables p.copies.now p.counts.now p.left.now) p.films)
+    (subst (λ (k : WriteCall). well_formed_call k ≡ true) (sym c.self.view_is) c.requires)) in
     omega (arith, room.places, within)
 
 pub slice_bounds-put_disk-end : goal.slice_bounds-put_disk-end
@@ -31,8 +31,8 @@ slice_bounds-put_disk-end g c =
     let p = c.self.inside in
     let room = stated_room p.rack.now p.copies.now p.counts.now p.left.now p.films c.self.invariant c.loop-d.d c.loop-d.first c.loop-d-test.true c.loop-d.invariant.0 in
     let within = count_within p.rack.now c.loop-d.d c.loop-d-test.true _ refl p.copies.now p.counts.now
-        (formed_unused (write_call (disks_in p.rack.now) (tables p.copies.now p.counts.now p.left.now) p.films)
-        (subst (λ (k : WriteCall). well_formed_call k ≡ true) (sym c.self.view_is) c.requires)) in
+    (formed_unused (write_call (disks_in p.rack.now) (tables p.copies.now p.counts.now p.left.now) p.films)
+    (subst (λ (k : WriteCall). well_formed_call k ≡ true) (sym c.self.view_is) c.requires)) in
     omega (arith, room.places, within)
 
 pub overflow_add-first : goal.overflow_add-first
@@ -47,6 +47,6 @@ loop-d-preserved g c =
     let room = stated_room p.rack.now p.copies.now p.counts.now p.left.now p.films c.self.invariant c.loop-d.d c.loop-d.first c.loop-d-test.true c.loop-d.invariant.0 in
     let next = first_next p.rack.now c.loop-d.d c.loop-d-test.true c.disk_slots.result.0 c.disk_slots.ensures in
     let lines =
-        lines_next p.rack.now c.loop-d.d c.loop-d-test.true c.disk_slots.result.0 c.disk_slots.ensures p.copies.now p.counts.now
-        room.counted c.loop-d.first in
+    lines_next p.rack.now c.loop-d.d c.loop-d-test.true c.disk_slots.result.0 c.disk_slots.ensures p.copies.now p.counts.now
+    room.counted c.loop-d.first in
     (omega (arith, c.loop-d.invariant.0, next), rest_step g.S.Sink.takes g.met.S.Sink.more lines c.loop-d.invariant.1 c.put_disk.ensures)

@@ -1,11 +1,10 @@
 -- The four runs of the text, one behind the other, with S and U summed over the tables.
-use Rattle.std.proofs.Common.{◌≡◌, true, [], ◌∷◌, sym, subst, ap₂, ℕ, arith}
+use Rattle.std.proofs.Common.{◌≡◌, true, [], ◌∷◌, sym, subst, arith}
 use Rattle.placement.specs.Rack.{all_slots}
 use Rattle.placement.specs.Packed.{disks_in}
 use Rattle.placement.specs.Tables.{tables}
-use Rattle.placement.specs.Plan.{served_of, unserved_of}
 use Rattle.placement.proofs.Racks.{accepted_all_slots}
-use Rattle.plan_text.specs.Text.{lines, first_line, served_line, text_of}
+use Rattle.plan_text.specs.Text.{lines, first_line, text_of}
 use Rattle.plan_text.specs.WriteCall.{WriteCall, write_call, plan_of, well_formed_call}
 use Rattle.writer.specs.Space.{disk_lines}
 use Rattle.writer.proofs.Runs.{text_runs}
@@ -21,7 +20,7 @@ returns g c =
     let back = sym c.self.view_is in
     let formed : well_formed_call stated ≡ true = subst (λ (k : WriteCall). well_formed_call k ≡ true) back c.requires in
     let counted : all_slots stated.rack ≡ c.all_slots-places.result =
-        omega (arith, c.all_slots-places.ensures, accepted_all_slots stated.rack c.self.invariant.accepted) in
+    omega (arith, c.all_slots-places.ensures, accepted_all_slots stated.rack c.self.invariant.accepted) in
     let served = served_held stated c.self.invariant formed c.total-served.result _ counted c.total-served.ensures in
     let unserved = unserved_held stated c.self.invariant formed c.total-unserved.result (omega arith) c.total-unserved.ensures in
     let first = subst (λ (k : WriteCall). takes c.args.sink.now (lines (first_line k.rack ∷ [])) c.put_first.new.sink) back c.put_first.ensures in
