@@ -1,21 +1,21 @@
 // Planning for C.
-ghost use Rattle.std.specs.Prelude.{◌≡◌, Err};
+ghost use Rattle.std.specs.Prelude.{◌≡◌};
 ghost use Rattle.placement.specs.Tables.{tables};
 ghost use Rattle.placement.specs.Planning.{call};
 ghost use Rattle.placement.specs.PlanPromise.{PlanPromise};
-ghost use Rattle.disk_entries.specs.Entries.{disks_of_entries, held_disks};
+ghost use Rattle.disk_entries.specs.Entries.{disks_of_entries};
 ghost use Rattle.plan_after.specs.AfterPromise.{PlanAfterPromise};
 ghost use Rattle.plan_terminal.specs.TerminalPromise.{TerminalPromise};
 ghost use Rattle.planner.specs.Answers.{plan_numbers};
 ghost use Rattle.jugfjord.specs.Numbers.{planned_fields};
 
-use disk_entries::{DiskEntry, PackedDisks, held_count, pack};
+use disk_entries::{DiskEntry, held_count, pack};
 use planner::PlanSums;
 use refusal::Refusal;
 
 // `struct jugfjord_planned` of the header.
 #[repr(C)]
-#[derive(Clone, Copy)]
+#[derive(Clone, Copy, Debug, PartialEq, Eq, Default)]
 pub struct Planned {
     pub number: u32,
     pub second: u32,
@@ -24,54 +24,25 @@ pub struct Planned {
     pub left: u32,
 }
 
-// The numbers of a refusal.
-fn declined(refusal: Refusal) -> Planned
-    ensures { planned_fields result ≡ plan_numbers (Err refusal) }
-{
-    let number = refusal::number(refusal);
-    let second = refusal::second(refusal);
-    Planned {
-        number,
-        second,
-        served: 0,
-        unserved: 0,
-        left: 0,
-    }
-}
+// The numbers of planning's answer: those of a refusal, or of a plan.
+impl From<Result<PlanSums, Refusal>> for Planned {
+    ghost from_gives = { λ answer planned. planned_fields planned ≡ plan_numbers answer };
 
-// The numbers of planning's answer.
-fn planned_numbers(answer: Result<PlanSums, Refusal>) -> Planned
-    ensures { planned_fields result ≡ plan_numbers answer }
-{
-    match answer {
-        Ok(sums) => Planned {
-            number: 0,
-            second: 0,
-            served: sums.served,
-            unserved: sums.unserved,
-            left: sums.left,
-        },
-        Err(refusal) => declined(refusal),
+    fn from(answer: Result<PlanSums, Refusal>) -> Planned {
+        match answer {
+            Ok(sums) => Planned {
+                served: sums.served,
+                unserved: sums.unserved,
+                left: sums.left,
+                ..Planned::default()
+            },
+            Err(refusal) => Planned {
+                number: refusal::number(refusal),
+                second: refusal::second(refusal),
+                ..Planned::default()
+            },
+        }
     }
-}
-
-// Planning with packed disks.
-fn plan_packed(
-    rack: PackedDisks,
-    list: &[u8],
-    copies: &mut [u64],
-    counts: &mut [u32],
-    left: &mut [u64],
-) -> Planned
-    ensures { PlanPromise
-        (call (held_disks rack) list.now)
-        (tables copies.old counts.old left.old)
-        (tables copies.new counts.new left.new)
-        (planned_fields result) }
-{
-    let count = held_count(rack);
-    let disks = rack.disks;
-    planned_numbers(planner::plan(&disks[..count], list, copies, counts, left))
 }
 
 // `planner::plan` with lent entries.
@@ -88,26 +59,9 @@ pub fn jugfjord_plan(
         (tables copies.new counts.new left.new)
         (planned_fields result) }
 {
-    plan_packed(pack(rack), list, copies, counts, left)
-}
-
-// Planning on the purser's terminal, with packed disks.
-fn plan_terminal_packed(
-    rack: PackedDisks,
-    list: &[u8],
-    copies: &mut [u64],
-    counts: &mut [u32],
-    left: &mut [u64],
-) -> Planned
-    ensures { TerminalPromise
-        (call (held_disks rack) list.now)
-        (tables copies.old counts.old left.old)
-        (tables copies.new counts.new left.new)
-        (planned_fields result) }
-{
-    let count = held_count(rack);
-    let disks = rack.disks;
-    planned_numbers(plan_terminal::plan_terminal(&disks[..count], list, copies, counts, left))
+    let packed = pack(rack);
+    let disks = &packed.disks[..held_count(packed)];
+    Planned::from(planner::plan(disks, list, copies, counts, left))
 }
 
 // `plan_terminal::plan_terminal` with lent entries.
@@ -124,27 +78,9 @@ pub fn jugfjord_plan_terminal(
         (tables copies.new counts.new left.new)
         (planned_fields result) }
 {
-    plan_terminal_packed(pack(rack), list, copies, counts, left)
-}
-
-// Planning after an earlier plan, with packed disks.
-fn plan_after_packed(
-    rack: PackedDisks,
-    list: &[u8],
-    earlier: &[u8],
-    copies: &mut [u64],
-    counts: &mut [u32],
-    left: &mut [u64],
-) -> Planned
-    ensures { PlanAfterPromise
-        (call (held_disks rack) list.now) earlier.now
-        (tables copies.old counts.old left.old)
-        (tables copies.new counts.new left.new)
-        (planned_fields result) }
-{
-    let count = held_count(rack);
-    let disks = rack.disks;
-    planned_numbers(plan_after::plan_after(&disks[..count], list, earlier, copies, counts, left))
+    let packed = pack(rack);
+    let disks = &packed.disks[..held_count(packed)];
+    Planned::from(plan_terminal::plan_terminal(disks, list, copies, counts, left))
 }
 
 // `plan_after::plan_after` with lent entries.
@@ -162,5 +98,7 @@ pub fn jugfjord_plan_after(
         (tables copies.new counts.new left.new)
         (planned_fields result) }
 {
-    plan_after_packed(pack(rack), list, earlier, copies, counts, left)
+    let packed = pack(rack);
+    let disks = &packed.disks[..held_count(packed)];
+    Planned::from(plan_after::plan_after(disks, list, earlier, copies, counts, left))
 }

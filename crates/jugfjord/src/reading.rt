@@ -1,11 +1,10 @@
 // Reading for C.
-ghost use Rattle.std.specs.Prelude.{◌≡◌, min, Err};
+ghost use Rattle.std.specs.Prelude.{◌≡◌};
 ghost use Rattle.placement.specs.Tables.{tables};
-ghost use Rattle.disk_entries.specs.Entries.{disks_of_entries, held_disks};
+ghost use Rattle.disk_entries.specs.Entries.{disks_of_entries};
 ghost use Rattle.reader.specs.Answers.{numbers_of};
 ghost use Rattle.reader.specs.Promise.{ReadPromise, JudgePromise};
 ghost use Rattle.jugfjord.specs.Numbers.{read_fields};
-ghost use Rattle.jugfjord.specs.ReadInto.{ReadInto};
 
 use disk_entries::{DiskEntry, MOST_PACKED, PackedDisks, unpack};
 use reader::PlanRead;
@@ -13,7 +12,7 @@ use refusal::Refusal;
 
 // `struct jugfjord_read_plan` of the header.
 #[repr(C)]
-#[derive(Clone, Copy)]
+#[derive(Clone, Copy, Debug, PartialEq, Eq, Default)]
 pub struct ReadPlan {
     pub number: u32,
     pub second: u32,
@@ -23,77 +22,26 @@ pub struct ReadPlan {
     pub unserved: u64,
 }
 
-// The numbers of a refusal.
-fn declined(refusal: Refusal) -> ReadPlan
-    ensures { read_fields result ≡ numbers_of (Err refusal) }
-{
-    let number = refusal::number(refusal);
-    let second = refusal::second(refusal);
-    ReadPlan {
-        number,
-        second,
-        disks: 0,
-        left: 0,
-        served: 0,
-        unserved: 0,
+// The numbers of reading's answer: those of a refusal, or of the plan that was read.
+impl From<Result<PlanRead, Refusal>> for ReadPlan {
+    ghost from_gives = { λ answer read. read_fields read ≡ numbers_of answer };
+
+    fn from(answer: Result<PlanRead, Refusal>) -> ReadPlan {
+        match answer {
+            Ok(plan) => ReadPlan {
+                disks: plan.disks,
+                left: plan.left,
+                served: plan.served,
+                unserved: plan.unserved,
+                ..ReadPlan::default()
+            },
+            Err(refusal) => ReadPlan {
+                number: refusal::number(refusal),
+                second: refusal::second(refusal),
+                ..ReadPlan::default()
+            },
+        }
     }
-}
-
-// The numbers of reading's answer.
-fn read_numbers(answer: Result<PlanRead, Refusal>) -> ReadPlan
-    ensures { read_fields result ≡ numbers_of answer }
-{
-    match answer {
-        Ok(plan) => ReadPlan {
-            number: 0,
-            second: 0,
-            disks: plan.disks,
-            left: plan.left,
-            served: plan.served,
-            unserved: plan.unserved,
-        },
-        Err(refusal) => declined(refusal),
-    }
-}
-
-// The numbers of reading's answer, and the disks that were read: none after a refusal.
-#[derive(Clone, Copy)]
-pub struct ReadPacked {
-    pub plan: ReadPlan,
-    pub rack: PackedDisks,
-}
-
-// As many places as entries are lent, 65 at most: no text has more disks than 64.
-fn places_for(entries: usize) -> usize
-    ensures { result ≡ min entries 65 }
-{
-    if entries < MOST_PACKED {
-        return entries;
-    }
-    MOST_PACKED
-}
-
-// Reading with packed disks, for so many lent entries.
-fn read_packed(
-    text: &[u8],
-    entries: usize,
-    copies: &mut [u64],
-    counts: &mut [u32],
-    left: &mut [u64],
-) -> ReadPacked
-    ensures { ReadInto text.now entries
-        (tables copies.old counts.old left.old)
-        (tables copies.new counts.new left.new)
-        (read_fields result.plan) (held_disks result.rack) }
-{
-    let places = places_for(entries);
-    let mut disks = [0u64; 65];
-    let plan = read_numbers(reader::read(text, &mut disks[..places], copies, counts, left));
-    let rack = PackedDisks {
-        count: plan.disks as usize,
-        disks,
-    };
-    ReadPacked { plan, rack }
 }
 
 // `reader::read` with lent entries, its answer as plain numbers.
@@ -110,14 +58,18 @@ pub fn jugfjord_read(
         (tables copies.new counts.new left.new)
         (read_fields result) }
 {
-    let read = read_packed(text, rack.len(), copies, counts, left);
-    unpack(read.rack, rack);
-    read.plan
+    // 65 places are enough: no text has more disks than 64
+    let places = rack.len().min(MOST_PACKED);
+    let mut disks = [0u64; 65];
+    let plan = ReadPlan::from(reader::read(text, &mut disks[..places], copies, counts, left));
+    let count = plan.disks as usize;
+    unpack(PackedDisks { count, disks }, rack);
+    plan
 }
 
 // `reader::judge_text` with its answer as plain numbers.
 pub fn jugfjord_judge(text: &[u8]) -> ReadPlan
     ensures { JudgePromise text.now (read_fields result) }
 {
-    read_numbers(reader::judge_text(text))
+    ReadPlan::from(reader::judge_text(text))
 }

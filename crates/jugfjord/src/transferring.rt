@@ -1,5 +1,5 @@
 // Transfers for C.
-ghost use Rattle.std.specs.Prelude.{◌≡◌, Err};
+ghost use Rattle.std.specs.Prelude.{◌≡◌};
 ghost use Rattle.transfer_schedule.specs.TransfersPromise.{CountedPromise};
 ghost use Rattle.transfers.specs.Answers.{transfer_numbers};
 ghost use Rattle.jugfjord.specs.Numbers.{transferred_fields};
@@ -9,7 +9,7 @@ use transfers::InRounds;
 
 // `struct jugfjord_transferred` of the header.
 #[repr(C)]
-#[derive(Clone, Copy)]
+#[derive(Clone, Copy, Debug, PartialEq, Eq, Default)]
 pub struct Transferred {
     pub number: u32,
     pub second: u32,
@@ -17,32 +17,23 @@ pub struct Transferred {
     pub rounds: u32,
 }
 
-// The numbers of a refusal.
-fn declined(refusal: Refusal) -> Transferred
-    ensures { transferred_fields result ≡ transfer_numbers (Err refusal) }
-{
-    let number = refusal::number(refusal);
-    let second = refusal::second(refusal);
-    Transferred {
-        number,
-        second,
-        transfers: 0,
-        rounds: 0,
-    }
-}
+// The numbers of the answer of transfers: those of a refusal, or of a schedule.
+impl From<Result<InRounds, Refusal>> for Transferred {
+    ghost from_gives = { λ answer made. transferred_fields made ≡ transfer_numbers answer };
 
-// The numbers of the answer of transfers.
-fn transferred_numbers(answer: Result<InRounds, Refusal>) -> Transferred
-    ensures { transferred_fields result ≡ transfer_numbers answer }
-{
-    match answer {
-        Ok(made) => Transferred {
-            number: 0,
-            second: 0,
-            transfers: made.transfers,
-            rounds: made.rounds,
-        },
-        Err(refusal) => declined(refusal),
+    fn from(answer: Result<InRounds, Refusal>) -> Transferred {
+        match answer {
+            Ok(made) => Transferred {
+                transfers: made.transfers,
+                rounds: made.rounds,
+                ..Transferred::default()
+            },
+            Err(refusal) => Transferred {
+                number: refusal::number(refusal),
+                second: refusal::second(refusal),
+                ..Transferred::default()
+            },
+        }
     }
 }
 
@@ -56,5 +47,5 @@ pub fn jugfjord_transfers(
     ensures { CountedPromise old.now new.now list.old list.new
         counts.old counts.new (transferred_fields result) }
 {
-    transferred_numbers(transfers::transfers_counted(old, new, list, counts))
+    Transferred::from(transfers::transfers_counted(old, new, list, counts))
 }

@@ -1,67 +1,41 @@
 // Writing for C.
-ghost use Rattle.std.specs.Prelude.{◌≡◌, Err};
+ghost use Rattle.std.specs.Prelude.{◌≡◌};
 ghost use Rattle.placement.specs.Tables.{tables};
 ghost use Rattle.plan_text.specs.WriteCall.{write_call};
-ghost use Rattle.disk_entries.specs.Entries.{disks_of_entries, held_disks};
+ghost use Rattle.disk_entries.specs.Entries.{disks_of_entries};
 ghost use Rattle.writer.specs.Answers.{written_numbers};
 ghost use Rattle.writer.specs.WritePromise.{WritePromise};
 ghost use Rattle.jugfjord.specs.Numbers.{written_fields};
 
-use disk_entries::{DiskEntry, PackedDisks, held_count, pack};
+use disk_entries::{DiskEntry, held_count, pack};
 use refusal::Refusal;
 
 // `struct jugfjord_written` of the header.
 #[repr(C)]
-#[derive(Clone, Copy)]
+#[derive(Clone, Copy, Debug, PartialEq, Eq, Default)]
 pub struct WrittenNumbers {
     pub number: u32,
     pub second: u32,
     pub length: u64,
 }
 
-// The numbers of a refusal.
-fn declined(refusal: Refusal) -> WrittenNumbers
-    ensures { written_fields result ≡ written_numbers (Err refusal) }
-{
-    let number = refusal::number(refusal);
-    let second = refusal::second(refusal);
-    WrittenNumbers {
-        number,
-        second,
-        length: 0,
-    }
-}
+// The numbers of writing's answer: those of a refusal, or the length of the text.
+impl From<Result<u64, Refusal>> for WrittenNumbers {
+    ghost from_gives = { λ answer written. written_fields written ≡ written_numbers answer };
 
-// The numbers of writing's answer.
-fn written_numbers(answer: Result<u64, Refusal>) -> WrittenNumbers
-    ensures { written_fields result ≡ written_numbers answer }
-{
-    match answer {
-        Ok(length) => WrittenNumbers {
-            number: 0,
-            second: 0,
-            length,
-        },
-        Err(refusal) => declined(refusal),
+    fn from(answer: Result<u64, Refusal>) -> WrittenNumbers {
+        match answer {
+            Ok(length) => WrittenNumbers {
+                length,
+                ..WrittenNumbers::default()
+            },
+            Err(refusal) => WrittenNumbers {
+                number: refusal::number(refusal),
+                second: refusal::second(refusal),
+                ..WrittenNumbers::default()
+            },
+        }
     }
-}
-
-// Writing with packed disks.
-fn write_packed(
-    rack: PackedDisks,
-    copies: &[u64],
-    counts: &[u32],
-    left: &[u64],
-    left_films: u32,
-    text: &mut [u8],
-) -> WrittenNumbers
-    ensures { WritePromise
-        (write_call (held_disks rack) (tables copies.now counts.now left.now) left_films)
-        text.old text.new (written_fields result) }
-{
-    let count = held_count(rack);
-    let disks = rack.disks;
-    written_numbers(writer::write(&disks[..count], copies, counts, left, left_films, text))
 }
 
 // `writer::write` with lent entries.
@@ -77,5 +51,7 @@ pub fn jugfjord_write(
         (write_call (disks_of_entries rack.now) (tables copies.now counts.now left.now) left_films)
         text.old text.new (written_fields result) }
 {
-    write_packed(pack(rack), copies, counts, left, left_films, text)
+    let packed = pack(rack);
+    let disks = &packed.disks[..held_count(packed)];
+    WrittenNumbers::from(writer::write(disks, copies, counts, left, left_films, text))
 }
