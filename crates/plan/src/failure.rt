@@ -1,4 +1,5 @@
 // Why there is no whole output.
+use std::fmt;
 use std::io::Error;
 
 #[derive(Clone, Copy)]
@@ -7,4 +8,14 @@ pub(crate) enum Failure {
     Unread(Error),
     // A write failed.
     Unwritten(Error),
+}
+
+// What is said on standard error behind the program's name.
+impl fmt::Display for Failure {
+    fn fmt<W: fmt::Write>(&self, f: &mut fmt::Formatter<W>) -> fmt::Result {
+        match self {
+            Failure::Unread(error) => write!(f, "standard input: {error}"),
+            Failure::Unwritten(error) => write!(f, "standard output: {error}"),
+        }
+    }
 }

@@ -1,201 +1,159 @@
 // Standard input, read to its end however long it is. What is kept stands for the whole.
-//
-// Three lent numbers say what reading came to, so that contracts can name it: `kept`, how many bytes stand for all that came;
-// `last`, what the last read answered (bytes that came, 0 at the end of the input, -1 where it failed); and `turns`, how many
-// chunks may still be read. A read that fails ends each function with its error.
 ghost use Rattle.std.specs.Prelude.{◌≡◌, true, ◌+◌, ◌-◌, ◌≤◌, ◌<◌, length, take, OnErr, negsuc};
 ghost use Rattle.plan_output.specs.Input.{most_kept};
-ghost use Rattle.std.specs.Io.{ReadsAtMost};
-ghost use Rattle.plan.specs.Answers.{answer_number, goes_on, is_end, bytes_of};
+ghost use Rattle.plan.specs.Answers.{answer_number, goes_on, is_end};
 ghost use Rattle.plan.specs.Reading.{OneRead, SpaceRead, Counted, Settled, ReadOn, InputRead};
 
 use plan_output::keep;
 use std::io;
 use std::io::Read;
 
-// The number that stands for what a read into this space answered.
-fn answer_number(read: &io::Result<usize>, space: &[u8]) -> isize
-    requires { ReadsAtMost read.now space.now }
-    ensures { result ≡ answer_number read.now }
-{
-    match read {
-        Ok(n) => *n as isize,
-        Err(_) => -1,
-    }
+// What reading has come to, which contracts name. A read that fails ends each method with its error.
+#[derive(Drop)]
+pub(crate) struct Reading {
+    // How many bytes stand for all that came.
+    pub(crate) kept: usize,
+    // What the last read answered: how many bytes came, 0 at the end of the input.
+    pub(crate) last: io::Result<usize>,
+    // How many chunks may still be read.
+    pub(crate) turns: u64,
 }
 
-// Whether more may come behind a read that answered this.
-fn goes_on(answer: isize) -> bool
-    ensures { result ≡ goes_on answer }
-{
-    answer > 0
-}
-
-// Whether a read that answered this saw the end of the input.
-pub(crate) fn is_end(answer: isize) -> bool
-    ensures { result ≡ is_end answer }
-{
-    answer == 0
-}
-
-// How many bytes a read brought that answered this: none at the end of the input, and none where it failed.
-fn bytes_of(answer: isize) -> usize
-    ensures { result ≡ bytes_of answer }
-{
-    if answer < 0 {
-        return 0;
-    }
-    answer as usize
-}
-
-// Reads once, counts what came and notes the answer. More may come, and the space has room for what is kept of it.
-fn read_next<R: Read>(
-    reader: &mut R,
-    space: &mut [u8],
-    kept: &mut usize,
-    last: &mut isize,
-) -> io::Result<()>
-    requires more { goes_on last.old ≡ true }
-    requires space_not_empty { 1 ≤ length space.old }
-    requires room { most_kept ≤ kept.old + length space.old }
-    ensures one { OneRead (length space.old) kept.old kept.new last.new }
-    ensures failed { OnErr result (last.new ≡ negsuc 0) }
-{
-    let read = reader.read(space);
-    let answer = answer_number(&read, space);
-    let before = *kept;
-    let more = bytes_of(answer);
-    *kept = keep(before, more);
-    *last = answer;
-    read?;
-    Ok(())
-}
-
-// Reads once into the space behind what is kept. Bytes before it stay as they are.
-fn read_behind<R: Read>(
-    reader: &mut R,
-    space: &mut [u8],
-    kept: &mut usize,
-    last: &mut isize,
-) -> io::Result<()>
-    requires more { goes_on last.old ≡ true }
-    requires space_len { length space.old ≡ most_kept }
-    requires room { kept.old < most_kept }
-    ensures one { OneRead
-        (length space.old - kept.old) kept.old kept.new last.new }
-    ensures failed { OnErr result (last.new ≡ negsuc 0) }
-    ensures before { take kept.old space.new ≡ take kept.old space.old }
-{
-    let at = *kept;
-    read_next(reader, &mut space[at..], kept, last)
-}
-
-// Fills the space from the start of the input, and reads only where there is room and more may come.
-#[tactic(auto, using(crate::proofs::OneReads::within_room, crate::proofs::OneReads::grows_some, crate::proofs::OneReads::grows_none, crate::proofs::OneReads::failed_over))]
-fn fill_space<R: Read>(
-    reader: &mut R,
-    space: &mut [u8],
-    kept: &mut usize,
-    last: &mut isize,
-) -> io::Result<()>
-    requires space_len { length space.old ≡ most_kept }
-    requires none { kept.old ≡ 0 }
-    requires more { goes_on last.old ≡ true }
-    ensures filled { SpaceRead (length space.old) kept.new last.new }
-    ensures failed { OnErr result (last.new ≡ negsuc 0) }
-{
-    while *kept < space.len() {
-        read_behind(reader, space, kept, last)?;
-        if !goes_on(*last) {
-            return Ok(());
+impl Reading {
+    // No read yet: a count that no input has, more may come, and no input has as many chunks as there are turns.
+    pub(crate) fn new() -> Reading
+        ensures uncounted { most_kept < result.kept }
+        ensures more { goes_on (answer_number result.last) ≡ true }
+        ensures all_turns { result.turns ≡ 18446744073709551615 }
+    {
+        Reading {
+            kept: usize::MAX,
+            last: Ok(1),
+            turns: u64::MAX,
         }
     }
-    Ok(())
-}
 
-// Reads one chunk, which is only counted, and takes a turn for it.
-fn read_chunk<R: Read>(
-    reader: &mut R,
-    chunk: &mut [u8],
-    kept: &mut usize,
-    last: &mut isize,
-    turns: &mut u64,
-) -> io::Result<()>
-    requires more { goes_on last.old ≡ true }
-    requires room { most_kept < length chunk.old }
-    requires turn { 1 ≤ turns.old }
-    ensures one { OneRead (length chunk.old) kept.old kept.new last.new }
-    ensures failed { OnErr result (last.new ≡ negsuc 0) }
-    ensures turns { turns.new ≡ turns.old - 1 }
-{
-    *turns -= 1;
-    read_next(reader, chunk, kept, last)
-}
+    // Whether more may come behind the last read.
+    fn goes_on(&self) -> bool
+        ensures { result ≡ goes_on (answer_number self.now.last) }
+    {
+        matches!(self.last, Ok(came) if came > 0)
+    }
 
-// Reads chunks, behind a space that is full, to the end of the input or until the turns are used up, which no input does.
-#[tactic(auto, using(crate::proofs::OneReads::counts_on, crate::proofs::OneReads::counts_none, crate::proofs::OneReads::failed_over))]
-fn count_on<R: Read>(
-    reader: &mut R,
-    chunk: &mut [u8],
-    kept: &mut usize,
-    last: &mut isize,
-    turns: &mut u64,
-) -> io::Result<()>
-    requires more { goes_on last.old ≡ true }
-    requires room { most_kept < length chunk.old }
-    requires full { kept.old ≡ most_kept }
-    ensures counted { Counted kept.old kept.new }
-    ensures settled { Settled last.new turns.new }
-    ensures failed { OnErr result (last.new ≡ negsuc 0) }
-{
-    while *turns > 0 {
-        read_chunk(reader, chunk, kept, last, turns)?;
-        let more = goes_on(*last);
-        if !more {
-            return Ok(());
+    // Whether the last read saw the end of the input.
+    pub(crate) fn is_end(&self) -> bool
+        ensures { result ≡ is_end (answer_number self.now.last) }
+    {
+        matches!(self.last, Ok(0))
+    }
+
+    // Reads once, counts what came and notes the answer. More may come, and the space has room for what is kept of it.
+    fn read_next<R: Read>(&mut self, reader: &mut R, space: &mut [u8]) -> io::Result<()>
+        requires more { goes_on (answer_number self.old.last) ≡ true }
+        requires space_not_empty { 1 ≤ length space.old }
+        requires room { most_kept ≤ self.old.kept + length space.old }
+        ensures one { OneRead (length space.old) self.old.kept self.new.kept (answer_number self.new.last) }
+        ensures failed { OnErr result (answer_number self.new.last ≡ negsuc 0) }
+        ensures turns { self.new.turns ≡ self.old.turns }
+    {
+        let before = self.kept;
+        let read = reader.read(space);
+        let more = read.unwrap_or(0);
+        self.kept = keep(before, more);
+        self.last = read;
+        read?;
+        Ok(())
+    }
+
+    // Reads once into the space behind what is kept. Bytes before it stay as they are.
+    fn read_behind<R: Read>(&mut self, reader: &mut R, space: &mut [u8]) -> io::Result<()>
+        requires more { goes_on (answer_number self.old.last) ≡ true }
+        requires space_len { length space.old ≡ most_kept }
+        requires room { self.old.kept < most_kept }
+        ensures one { OneRead
+            (length space.old - self.old.kept) self.old.kept self.new.kept (answer_number self.new.last) }
+        ensures failed { OnErr result (answer_number self.new.last ≡ negsuc 0) }
+        ensures before { take self.old.kept space.new ≡ take self.old.kept space.old }
+    {
+        let at = self.kept;
+        self.read_next(reader, &mut space[at..])
+    }
+
+    // Fills the space from the start of the input, and reads only where there is room and more may come.
+    #[tactic(auto, using(crate::proofs::OneReads::within_room, crate::proofs::OneReads::grows_some, crate::proofs::OneReads::grows_none, crate::proofs::OneReads::failed_over))]
+    fn fill_space<R: Read>(&mut self, reader: &mut R, space: &mut [u8]) -> io::Result<()>
+        requires space_len { length space.old ≡ most_kept }
+        requires none { self.old.kept ≡ 0 }
+        requires more { goes_on (answer_number self.old.last) ≡ true }
+        ensures filled { SpaceRead (length space.old) self.new.kept (answer_number self.new.last) }
+        ensures failed { OnErr result (answer_number self.new.last ≡ negsuc 0) }
+    {
+        while self.kept < space.len() {
+            self.read_behind(reader, space)?;
+            if !self.goes_on() {
+                return Ok(());
+            }
         }
+        Ok(())
     }
-    Ok(())
-}
 
-// The choice: where the last read saw the end of the input, that is all; else the input is counted on.
-fn read_on<R: Read>(
-    reader: &mut R,
-    chunk: &mut [u8],
-    kept: &mut usize,
-    last: &mut isize,
-    turns: &mut u64,
-) -> io::Result<()>
-    requires room { most_kept < length chunk.old }
-    requires space { SpaceRead most_kept kept.old last.old }
-    ensures on { ReadOn kept.old kept.new last.old last.new turns.new }
-    ensures failed { OnErr result (last.new ≡ negsuc 0) }
-{
-    if goes_on(*last) {
-        return count_on(reader, chunk, kept, last, turns);
+    // Reads one chunk, which is only counted, and takes a turn for it.
+    fn read_chunk<R: Read>(&mut self, reader: &mut R, chunk: &mut [u8]) -> io::Result<()>
+        requires more { goes_on (answer_number self.old.last) ≡ true }
+        requires room { most_kept < length chunk.old }
+        requires turn { 1 ≤ self.old.turns }
+        ensures one { OneRead (length chunk.old) self.old.kept self.new.kept (answer_number self.new.last) }
+        ensures failed { OnErr result (answer_number self.new.last ≡ negsuc 0) }
+        ensures turns { self.new.turns ≡ self.old.turns - 1 }
+    {
+        self.turns -= 1;
+        self.read_next(reader, chunk)
     }
-    Ok(())
-}
 
-// Reads the whole input: its first bytes into the space, and then as many chunks as there are. `kept` comes with a number that no
-// input has, and begins at 0 here.
-#[tactic(auto, using(crate::proofs::WholeReads::input_read, crate::proofs::WholeReads::input_failed))]
-pub(crate) fn read_input<R: Read>(
-    reader: &mut R,
-    space: &mut [u8],
-    chunk: &mut [u8],
-    kept: &mut usize,
-    last: &mut isize,
-    turns: &mut u64,
-) -> io::Result<()>
-    requires space_len { length space.old ≡ most_kept }
-    requires room { most_kept < length chunk.old }
-    requires uncounted { most_kept < kept.old }
-    requires more { goes_on last.old ≡ true }
-    ensures read { InputRead kept.new last.new turns.new }
-    ensures failed { OnErr result (last.new ≡ negsuc 0) }
-{
-    *kept = 0;
-    fill_space(reader, space, kept, last)?;
-    read_on(reader, chunk, kept, last, turns)
+    // Reads chunks, behind a space that is full, to the end of the input or until the turns are used up, which no input does.
+    #[tactic(auto, using(crate::proofs::OneReads::counts_on, crate::proofs::OneReads::counts_none, crate::proofs::OneReads::failed_over))]
+    fn count_on<R: Read>(&mut self, reader: &mut R) -> io::Result<()>
+        requires more { goes_on (answer_number self.old.last) ≡ true }
+        requires full { self.old.kept ≡ most_kept }
+        ensures counted { Counted self.old.kept self.new.kept }
+        ensures settled { Settled (answer_number self.new.last) self.new.turns }
+        ensures failed { OnErr result (answer_number self.new.last ≡ negsuc 0) }
+    {
+        let mut chunk = [0u8; 65_536];
+        while self.turns > 0 {
+            self.read_chunk(reader, &mut chunk)?;
+            let more = self.goes_on();
+            if !more {
+                return Ok(());
+            }
+        }
+        Ok(())
+    }
+
+    // The choice: where the last read saw the end of the input, that is all; else the input is counted on.
+    fn read_on<R: Read>(&mut self, reader: &mut R) -> io::Result<()>
+        requires space { SpaceRead most_kept self.old.kept (answer_number self.old.last) }
+        ensures on { ReadOn self.old.kept self.new.kept (answer_number self.old.last) (answer_number self.new.last) self.new.turns }
+        ensures failed { OnErr result (answer_number self.new.last ≡ negsuc 0) }
+    {
+        if self.goes_on() {
+            return self.count_on(reader);
+        }
+        Ok(())
+    }
+
+    // Reads the whole input: its first bytes into the space, and then as many chunks as there are. `kept` comes with a number that
+    // no input has, and begins at 0 here.
+    #[tactic(auto, using(crate::proofs::WholeReads::input_read, crate::proofs::WholeReads::input_failed))]
+    pub(crate) fn read_input<R: Read>(&mut self, reader: &mut R, space: &mut [u8]) -> io::Result<()>
+        requires space_len { length space.old ≡ most_kept }
+        requires uncounted { most_kept < self.old.kept }
+        requires more { goes_on (answer_number self.old.last) ≡ true }
+        ensures read { InputRead self.new.kept (answer_number self.new.last) self.new.turns }
+        ensures failed { OnErr result (answer_number self.new.last ≡ negsuc 0) }
+    {
+        self.kept = 0;
+        self.fill_space(reader, space)?;
+        self.read_on(reader)
+    }
 }
