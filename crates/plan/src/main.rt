@@ -26,19 +26,29 @@ use writing::write_out;
 // Writes the output of an input: all of it, and nothing else.
 fn send<W: Write>(writer: &mut W, input: &[u8], bytes: &[u8]) -> io::Result<()>
     requires { bytes.now ≡ output_of input.now }
-    ensures whole { OnOk result (Appends (W.contents writer.old) (W.contents writer.new) (output_of input.now)) }
-    ensures part { OnErr result (AppendsPart (W.contents writer.old) (W.contents writer.new) (output_of input.now)) }
+    ensures whole { OnOk result (Appends (W.contents writer.old) (W.contents writer.new)
+        (output_of input.now)) }
+    ensures part { OnErr result (AppendsPart (W.contents writer.old) (W.contents writer.new)
+        (output_of input.now)) }
 {
     write_out(writer, bytes)
 }
 
-// Works out the output for an input that was read to its end, at the front of the space, and sends it.
-fn print<W: Write>(writer: &mut W, reading: &Reading, input: &[u8], text: &mut [u8]) -> io::Result<()>
+// Works out the output for an input that was read to its end, at the front of the space, and sends
+// it.
+fn print<W: Write>(
+    writer: &mut W,
+    reading: &Reading,
+    input: &[u8],
+    text: &mut [u8],
+) -> io::Result<()>
     requires end_seen { is_end (answer_number reading.now.last) ≡ true }
     requires room { most_output ≤ length text.old }
     ensures made { take (length (output_of input.now)) text.new ≡ output_of input.now }
-    ensures whole { OnOk result (Appends (W.contents writer.old) (W.contents writer.new) (output_of input.now)) }
-    ensures part { OnErr result (AppendsPart (W.contents writer.old) (W.contents writer.new) (output_of input.now)) }
+    ensures whole { OnOk result (Appends (W.contents writer.old) (W.contents writer.new)
+        (output_of input.now)) }
+    ensures part { OnErr result (AppendsPart (W.contents writer.old) (W.contents writer.new)
+        (output_of input.now)) }
 {
     let n = output(input, text);
     send(writer, input, &text[..n])
@@ -49,33 +59,30 @@ fn print<W: Write>(writer: &mut W, reading: &Reading, input: &[u8], text: &mut [
 fn run<R: Read, W: Write>(
     reader: &mut R,
     writer: &mut W,
-    input: &mut [u8],
+    input: &mut [u8; MOST_KEPT],
     text: &mut [u8],
     reading: &mut Reading,
 ) -> Result<(), Failure>
-    requires input_len { length input.old ≡ most_kept }
     requires text_room { most_output ≤ length text.old }
     requires uncounted { most_kept < reading.old.kept }
     requires more { goes_on (answer_number reading.old.last) ≡ true }
     requires all_turns { reading.old.turns ≡ 18446744073709551615 }
-    ensures promise { RunPromise
-        input.new reading.new.kept (answer_number reading.new.last) reading.new.turns text.old text.new }
+    ensures promise { RunPromise input.new
+        reading.new.kept (answer_number reading.new.last) reading.new.turns
+        text.old text.new }
     ensures seen { is_end (answer_number reading.new.last) ≡ saw_end result }
     ensures sent { OnOk result (Appends (W.contents writer.old) (W.contents writer.new)
         (output_of (take reading.new.kept input.new))) }
-    ensures failed { IfErr result (λ f. AfterFailure f (W.contents writer.old) (W.contents writer.new)
+    ensures failed { IfErr result (λ f. AfterFailure f
+        (W.contents writer.old) (W.contents writer.new)
         (output_of (take reading.new.kept input.new))) }
 {
-    if let Err(error) = reading.read_input(reader, input) {
-        return Err(Failure::Unread(error));
-    }
+    reading.read_input(reader, input).map_err(Failure::Unread)?;
     if !reading.is_end() {
         return Err(Failure::Unread(Error::from(ErrorKind::FileTooLarge)));
     }
-    match print(writer, reading, &input[..reading.kept], text) {
-        Ok(()) => Ok(()),
-        Err(error) => Err(Failure::Unwritten(error)),
-    }
+    let kept = &input[..reading.kept];
+    print(writer, reading, kept, text).map_err(Failure::Unwritten)
 }
 
 // Makes the space for what is kept of an input and one that every output fits.

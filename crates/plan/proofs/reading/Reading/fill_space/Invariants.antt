@@ -8,6 +8,7 @@ invariant-loop-self g l = record {
   within : l.self.kept ≤ most_kept;
   space_len : length l.space ≡ most_kept;
   more : goes_on (answer_number l.self.last) ≡ true;
+  turns : l.self.turns ≡ l.initial.self.turns;
 }
 
 abbrev pub decreases-loop-self : goal.decreases-loop-self
