@@ -1,11 +1,16 @@
-// The cases of a file. A case is a line of nine numbers in columns and a label, and behind it the bytes of its text, if no case
-// before it has them.
-use crate::bytes::{at, low_byte, put, sum, wide};
-use std::io;
+// The cases of a file. A case is a line of nine numbers in columns and a label, and behind it the
+// bytes of its text, if no case before it has them.
+ghost use Rattle.std.specs.Prelude.{◌≤◌};
 
-// The columns: where the next case starts, where the label ends, where the bytes start and how many they are, the length of
-// the text, the byte that fills it up, what is done, at which place, with which value; and the label.
-pub(crate) const NEXT: usize = 0;
+use crate::change::Change;
+use crate::lent::Lent;
+use crate::plan::{SPACE, UNUSED_BYTE};
+use reader::PlanRead;
+
+// The columns: where the next case starts, where the label ends, where the bytes start and how many
+// they are, the length of the text, the byte that fills it up, what is changed, at which place, and
+// with which value; and the label.
+const NEXT: usize = 0;
 
 const LABEL_END: usize = 7;
 
@@ -13,93 +18,130 @@ const FROM: usize = 14;
 
 const GIVEN: usize = 21;
 
-pub(crate) const TOTAL: usize = 28;
+const TOTAL: usize = 28;
 
 const FILL: usize = 35;
 
-pub(crate) const WHAT: usize = 42;
+const WHAT: usize = 42;
 
-pub(crate) const PLACE: usize = 49;
+const PLACE: usize = 49;
 
-pub(crate) const VALUE: usize = 56;
+const VALUE: usize = 56;
 
 const LABEL: usize = 67;
 
-// What is done in a case that sets one byte of its text.
-const SET_BYTE: u64 = 15;
-
-// Whether a byte is a digit.
-fn is_digit(b: u8) -> bool {
-    match b {
-        b'0'..=b'9' => true,
-        _ => false,
-    }
+#[derive(Clone, Copy)]
+pub(crate) struct Case<'a> {
+    file: &'a [u8],
+    // Where the next case starts.
+    pub(crate) next: usize,
+    pub(crate) label: &'a [u8],
+    // Where the bytes of the text start, how many they are, its length, and what fills it up.
+    from: usize,
+    given: usize,
+    total: usize,
+    fill: u8,
+    pub(crate) change: Option<Change>,
+    pub(crate) place: usize,
+    pub(crate) value: usize,
 }
 
-// A number with one digit more.
-fn with_digit(n: u64, b: u8) -> u64 {
-    let ten = std::num::wrapping_add_u64(n << 3, n << 1);
-    std::num::wrapping_add_u64(ten, wide(b & 15))
+// The number whose digits start at a column of a line.
+fn number_at(line: &[u8], column: usize) -> usize {
+    let bytes = line.get(column..).unwrap_or(&[]).iter();
+    let digits = bytes.take_while(|byte| byte.is_ascii_digit());
+    digits.fold(0, |number: usize, digit| {
+        let digit = usize::from(digit.wrapping_sub(b'0'));
+        number.wrapping_mul(10).wrapping_add(digit)
+    })
 }
 
-// The number whose digits start at a place.
-fn number_from(file: &[u8], from: usize) -> u64 {
-    let mut n = 0;
-    for i in from..file.len() {
-        let b = at(file, i);
-        if !is_digit(b) {
-            return n;
+// The least significant byte of a number.
+fn low_byte(n: usize) -> u8 {
+    (n & 0xff) as u8
+}
+
+impl<'a> Case<'a> {
+    // The case that starts at a place of the file, if the file has that place.
+    pub(crate) fn at(file: &'a [u8], start: usize) -> Option<Case<'a>> {
+        if start >= file.len() {
+            return None;
         }
-        n = with_digit(n, b);
+        let line = &file[start..];
+        let number = |column: usize| number_at(line, column);
+        Some(Case {
+            file,
+            next: number(NEXT),
+            label: file
+                .get(start.saturating_add(LABEL)..number(LABEL_END))
+                .unwrap_or(&[]),
+            from: number(FROM),
+            given: number(GIVEN),
+            total: number(TOTAL),
+            fill: low_byte(number(FILL)),
+            change: Change::try_from(number(WHAT)).ok(),
+            place: number(PLACE),
+            value: number(VALUE),
+        })
     }
-    n
-}
 
-// The number in a column of a case.
-pub(crate) fn field(file: &[u8], case: usize, column: usize) -> u64 {
-    number_from(file, sum(case, column))
-}
-
-// Writes the label of a case.
-pub(crate) fn print_label(rt: &impl Print, file: &[u8], case: usize) -> io::Result<()> {
-    let start = sum(case, LABEL);
-    let end = field(file, case, LABEL_END) as usize;
-    if start <= end {
-        if end <= file.len() {
-            rt.write_all(&file[start..end])?;
+    // The byte at a place of the text.
+    fn text_byte(&self, place: usize) -> u8 {
+        if place < self.given {
+            let byte = self.file.get(self.from.wrapping_add(place));
+            byte.copied().unwrap_or(0)
+        } else {
+            self.fill
         }
     }
-    Ok(())
-}
 
-// The byte at place i of a text of so many bytes that start at a place of the file, filled up with a byte.
-fn text_byte(file: &[u8], from: usize, given: usize, fill: u8, i: usize) -> u8 {
-    if i < given {
-        at(file, sum(from, i))
-    } else {
-        fill
+    // How many bytes of its space the text takes.
+    pub(crate) fn text_length(&self) -> usize
+        ensures { result ≤ 65600 }
+    {
+        self.total.min(SPACE)
     }
-}
 
-// Writes a case's text from the first place on.
-fn write_text(file: &[u8], case: usize, text: &mut [u8]) {
-    let from = field(file, case, FROM) as usize;
-    let given = field(file, case, GIVEN) as usize;
-    let total = field(file, case, TOTAL) as usize;
-    let fill = low_byte(field(file, case, FILL));
-    for i in 0..total {
-        put(text, i, text_byte(file, from, given, fill, i));
+    // The text in its space, with the byte that the case sets.
+    pub(crate) fn text_space(&self) -> [u8; SPACE] {
+        let mut space = [UNUSED_BYTE; SPACE];
+        for (place, byte) in space.iter_mut().take(self.total).enumerate() {
+            *byte = self.text_byte(place);
+        }
+        if self.change == Some(Change::TextByte) {
+            if let Some(byte) = space.get_mut(self.place) {
+                *byte = low_byte(self.value);
+            }
+        }
+        space
     }
-}
 
-// Writes a case's text, with the byte that the case sets.
-pub(crate) fn make_text(file: &[u8], case: usize, text: &mut [u8]) {
-    write_text(file, case, text);
-    if field(file, case, WHAT) == SET_BYTE {
-        put(
-            text,
-            field(file, case, PLACE) as usize,
-            low_byte(field(file, case, VALUE)),
-        );
+    // The value that the case sets, in 32 bits: the largest one where it does not fit.
+    pub(crate) fn value_of_32_bits(&self) -> u32 {
+        u32::try_from(self.value).unwrap_or(u32::MAX)
+    }
+
+    // The numbers of disks and of left films that are stated: those that were read, or what the
+    // case sets. A disk that is made like another is stated too.
+    pub(crate) fn stated(&self, read: PlanRead) -> PlanRead {
+        let place = u32::try_from(self.place).unwrap_or(u32::MAX);
+        let n = self.value_of_32_bits();
+        match self.change {
+            Some(Change::StatedDisks) => PlanRead { disks: n, ..read },
+            Some(Change::StatedLeft) => PlanRead { left: n, ..read },
+            Some(Change::LikeDisk) => PlanRead {
+                disks: read.disks.max(place.wrapping_add(1)),
+                ..read
+            },
+            _ => read,
+        }
+    }
+
+    // What the case lends.
+    pub(crate) fn lent(&self) -> Lent {
+        match self.change {
+            Some(Change::Lend(part)) => Lent::at_most(part, self.value),
+            _ => Lent::whole(),
+        }
     }
 }
