@@ -56,17 +56,6 @@ module _ (c : Call) (formed : CallWellFormed c) where
   usable : Usable (filling c.rack)
   usable = accepted_usable c.rack formed.rack
 
-  -- There are no more films of demand 0 than records.
-  pub films_few : length (shelf_films (records_in c)) ≤ record_count c.list
-  films_few =
-      omega (
-        arith,
-        length_sum (shelf_films (records_in c)),
-        shelf_sum (records_in c) one,
-        length_sum (records_in c),
-        records_length c.list,
-      )
-
   module _ {last : List Item} (left_are : last ≡ left_in c) where
     -- What is left fits 32 bits in sum,
     pub left_small : total last < 4294967296

@@ -18,7 +18,6 @@ pub mod Remainder
 pub mod Filling
 pub mod WrittenTo
 pub mod FillingKeys
-pub mod FirstPlaces
 pub mod NextDisk
 pub mod StoredInOrder
 pub mod FilledTo
@@ -26,7 +25,6 @@ pub mod ShelvedTo
 pub mod ShelvedMore
 pub mod ShelfTables
 pub mod ShelfSteps
-pub mod KeyRuns
 pub mod LeftFilms
 pub mod Answered
 pub mod Fulfilled

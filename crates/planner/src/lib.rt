@@ -26,6 +26,7 @@ ghost use Rattle.planner.specs.Behind.{BehindPromise};
 pub use answer::PlanSums;
 use fulfil::fill_tables;
 use judge::judge;
+use placement::LentTables;
 use refusal::Refusal;
 
 // Plans for a rack of disks, one number each, from the bytes of a demand list. A plan goes into the lent tables: each disk's copies from its first place on,
@@ -45,8 +46,7 @@ pub fn plan(
     ensures unchanged { OnErr result
         (tables copies.new counts.new left.new ≡ tables copies.old counts.old left.old) }
 {
-    judge(rack, list, copies.len(), counts.len(), left.len())?;
-    Ok(fill_tables(rack, list, copies, counts, left))
+    plan_behind(rack, list, copies, counts, left, Ok(()))
 }
 
 // Plans as `plan` does, unless another judgement, which stands behind planning's refusals, is a refusal.
@@ -67,6 +67,11 @@ pub fn plan_behind(
     ensures unchanged { OnErr result
         (tables copies.new counts.new left.new ≡ tables copies.old counts.old left.old) }
 {
-    judge(rack, list, copies.len(), counts.len(), left.len()).and(behind)?;
-    Ok(fill_tables(rack, list, copies, counts, left))
+    let mut tables = LentTables {
+        copies,
+        counts,
+        left,
+    };
+    judge(rack, list, &tables).and(behind)?;
+    Ok(fill_tables(rack, list, &mut tables))
 }

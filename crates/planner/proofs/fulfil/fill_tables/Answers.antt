@@ -10,7 +10,8 @@ use Rattle.placement.specs.Packed.{disks_in}
 use Rattle.placement.specs.Method.{remaining, served}
 use Rattle.placement.specs.FillingOrder.{filling, placed}
 use Rattle.placement.specs.Shelf.{shelf_films}
-use Rattle.placement.specs.Tables.{Tables, tables, written, places}
+use Rattle.placement.specs.Tables.{Tables, written, places}
+use Rattle.placement.specs.LentTables.{held}
 use Rattle.placement.specs.Planning.{Call, call, records_in, placed_in, left_in}
 use Rattle.placement.specs.WellFormed.{Each, Entry}
 use Rattle.placement.proofs.WellFormed.{list_of_entries}
@@ -33,7 +34,7 @@ pub shelve_all-placed-requires-clause-laid : goal.shelve_all-placed-requires-cla
 shelve_all-placed-requires-clause-laid c =
     let called : Call = call (disks_in c.args.rack.now) c.args.list.now in
     let formed = c.requires.formed in
-    let entry : Tables = (let a = c.args in tables a.copies.now a.counts.now a.left.now) in
+    let entry : Tables = held c.args.tables.now in
     let rack = called.rack in
     let list_is : items_in c.build.new.wanted ≡ list_of (records_in called) = c.build.ensures.wanted_after in
     let filled = c.fill_in_order-served.ensures in
@@ -45,7 +46,7 @@ pub store_left-unserved-requires-clause-small : goal.store_left-unserved-require
 store_left-unserved-requires-clause-small c =
     let called : Call = call (disks_in c.args.rack.now) c.args.list.now in
     let formed = c.requires.formed in
-    let entry : Tables = (let a = c.args in tables a.copies.now a.counts.now a.left.now) in
+    let entry : Tables = held c.args.tables.now in
     let rack = called.rack in
     let list_is : items_in c.build.new.wanted ≡ list_of (records_in called) = c.build.ensures.wanted_after in
     let filled = c.fill_in_order-served.ensures in
@@ -65,7 +66,7 @@ pub store_left-unserved-requires-clause-distinct : goal.store_left-unserved-requ
 store_left-unserved-requires-clause-distinct c =
     let called : Call = call (disks_in c.args.rack.now) c.args.list.now in
     let formed = c.requires.formed in
-    let entry : Tables = (let a = c.args in tables a.copies.now a.counts.now a.left.now) in
+    let entry : Tables = held c.args.tables.now in
     let rack = called.rack in
     let list_is : items_in c.build.new.wanted ≡ list_of (records_in called) = c.build.ensures.wanted_after in
     let filled = c.fill_in_order-served.ensures in
@@ -85,7 +86,7 @@ pub store_left-unserved-requires-clause-few : goal.store_left-unserved-requires-
 store_left-unserved-requires-clause-few c =
     let called : Call = call (disks_in c.args.rack.now) c.args.list.now in
     let formed = c.requires.formed in
-    let entry : Tables = (let a = c.args in tables a.copies.now a.counts.now a.left.now) in
+    let entry : Tables = held c.args.tables.now in
     let rack = called.rack in
     let list_is : items_in c.build.new.wanted ≡ list_of (records_in called) = c.build.ensures.wanted_after in
     let filled = c.fill_in_order-served.ensures in
@@ -101,11 +102,11 @@ store_left-unserved-requires-clause-few c =
     let count : length (map item_of unshelved ++ map item_of rest) ≡ length unshelved + length rest = omega (arith, length-append (map item_of unshelved) (map item_of rest), length-map unshelved item_of, length-map rest item_of) in
     omega (arith, left_count called formed left_run, count)
 
-pub returns : goal.returns
-returns c =
+pub returns-clause-result_value : goal.returns-clause-result_value
+returns-clause-result_value c =
     let called : Call = call (disks_in c.args.rack.now) c.args.list.now in
     let formed = c.requires.formed in
-    let entry : Tables = (let a = c.args in tables a.copies.now a.counts.now a.left.now) in
+    let entry : Tables = held c.args.tables.now in
     let rack = called.rack in
     let list_is : items_in c.build.new.wanted ≡ list_of (records_in called) = c.build.ensures.wanted_after in
     let filled = c.fill_in_order-served.ensures in
@@ -119,7 +120,24 @@ returns c =
     let rest : List ℕ = c.keys-rest.result.now in
     let left_run : map item_of unshelved ++ map item_of rest ≡ left_in called = ap₂ (λ (xs ys : List Item). xs ++ ys) (rest_items films start) (ap (map item_of) c.keys-rest.ensures.value) ∙ left_is called formed entry copies_filled counts_filled films_are shelved.upper_bound.1 (filled.list_after ∙ ap (remaining (filling rack)) list_is) in
     let count : length (map item_of unshelved ++ map item_of rest) ≡ length unshelved + length rest = omega (arith, length-append (map item_of unshelved) (map item_of rest), length-map unshelved item_of, length-map rest item_of) in
-    record {
-      result_value = steps_numbers called formed left_run (filled.served_value ∙ ap (λ (list : List Item). served (placed rack list)) list_is) c.store_left-unserved.ensures.value (sym count);
-      left_after = steps_tables called formed left_run _ entry (copies_planned called formed entry copies_filled counts_filled films_are shelved.copies_after) (counts_planned called formed entry copies_filled counts_filled films_are shelved.counts_after) c.store_left-unserved.ensures.left_after;
-    }
+    steps_numbers called formed left_run (filled.served_value ∙ ap (λ (list : List Item). served (placed rack list)) list_is) c.store_left-unserved.ensures.value (sym count)
+
+pub returns-clause-planned : goal.returns-clause-planned
+returns-clause-planned c =
+    let called : Call = call (disks_in c.args.rack.now) c.args.list.now in
+    let formed = c.requires.formed in
+    let entry : Tables = held c.args.tables.now in
+    let rack = called.rack in
+    let list_is : items_in c.build.new.wanted ≡ list_of (records_in called) = c.build.ensures.wanted_after in
+    let filled = c.fill_in_order-served.ensures in
+    let copies_filled : c.fill_in_order-served.new.copies ≡ written (places rack (placed_in called)) entry.copies = filled.copies_after ∙ ap (λ (list : List Item). written (places rack (placed rack list)) entry.copies) list_is in
+    let counts_filled : c.fill_in_order-served.new.counts ≡ written (map length (placed_in called)) entry.counts = filled.counts_after ∙ ap (λ (list : List Item). written (map length (placed rack list)) entry.counts) list_is in
+    let films : List ℕ = c.keys-unwanted.result.now in
+    let films_are : map item_of films ≡ shelf_films (records_in called) = ap (map item_of) c.keys-unwanted.ensures.value ∙ c.build.ensures.films_after in
+    let shelved = c.shelve_all-placed.ensures in
+    let start : ℕ = c.shelve_all-placed.result in
+    let unshelved : List ℕ = take (length films - start) (drop start films) in
+    let rest : List ℕ = c.keys-rest.result.now in
+    let left_run : map item_of unshelved ++ map item_of rest ≡ left_in called = ap₂ (λ (xs ys : List Item). xs ++ ys) (rest_items films start) (ap (map item_of) c.keys-rest.ensures.value) ∙ left_is called formed entry copies_filled counts_filled films_are shelved.upper_bound.1 (filled.list_after ∙ ap (remaining (filling rack)) list_is) in
+    let count : length (map item_of unshelved ++ map item_of rest) ≡ length unshelved + length rest = omega (arith, length-append (map item_of unshelved) (map item_of rest), length-map unshelved item_of, length-map rest item_of) in
+    steps_tables called formed left_run _ entry (copies_planned called formed entry copies_filled counts_filled films_are shelved.copies_after) (counts_planned called formed entry copies_filled counts_filled films_are shelved.counts_after) c.store_left-unserved.ensures.left_after
