@@ -73,14 +73,6 @@ module _
           (ap (λ (w : Window). outside w list) (sym is)));
     }
 
--- The same of the list that keys stand for.
-pub filled_window :
-    (d : Disk) (list : List Item) (keys : List ℕ) (start size sum over : ℕ) → map item_of keys ≡ list → 1 ≤ d.slots → 1 ≤ d.load
-    → window start size ≡ window_of d (map item_of keys) → sum ≡ total (within (window start size) (map item_of keys)) → over ≡ sum - d.load
-    → Filling d list start size sum over
-filled_window d list keys start size sum over e some_slots some_load is sums overs =
-    subst (λ (xs : List Item). Filling d xs start size sum over) e (filling d (map item_of keys) start size sum over some_slots some_load is sums overs)
-
 -- The run of keys that the window is.
 module _ {d : Disk} {list : List Item} {start size sum over : ℕ} (f : Filling d list start size sum over) (keys : List ℕ) (same : map item_of keys ≡ list) where
   abbrev part : List ℕ

@@ -8,3 +8,4 @@ pub mod Shelf
 pub mod Order
 pub mod Behind
 pub mod WorkingList
+pub mod Entries

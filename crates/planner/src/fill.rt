@@ -1,14 +1,13 @@
 // Filling disks: the next list after a window, one disk, and all disks in filling order.
 ghost use Rattle.std.specs.Prelude.{◌≡◌, true, map, ◌+◌, ◌≤◌, length};
 ghost use Rattle.placement.specs.Items.{item, enter, total};
-ghost use Rattle.placement.specs.Rack.{disk, all_slots, rack_accepted, most_load, most_demand};
+ghost use Rattle.placement.specs.Rack.{disk, all_slots, rack_accepted, most_load};
 ghost use Rattle.placement.specs.Window.{window, within, outside};
 ghost use Rattle.placement.specs.Disk.{last_film, copies_of, list_after};
 ghost use Rattle.placement.specs.Method.{remaining, served as served_by};
 ghost use Rattle.placement.specs.FillingOrder.{filling, placed};
 ghost use Rattle.placement.specs.Tables.{entry_of, padded, written, places};
 ghost use Rattle.placement.specs.Packed.{disks_in};
-ghost use Rattle.placement.specs.WellFormed.{Each, Entry};
 ghost use Rattle.planner.specs.WorkingList.{items_in};
 
 use crate::key;
@@ -45,7 +44,7 @@ fn take_window(list: &mut WorkingList, found: Found, over: u32)
 // Fills one disk: its copies go to the front of the lent table, and what they serve leaves the list.
 fn fill_one(copies: &mut [u64], list: &mut WorkingList, slots: Slots, streams: Streams) -> Step
     requires slots_in_bounds { slots.0 ≤ length copies.old }
-    requires le_slots { (1 ≤ slots.0) × (1 ≤ streams.0) × (streams.0 ≤ most_load) × Each (Entry most_demand) (items_in list.old) }
+    requires le_slots { (1 ≤ slots.0) × (1 ≤ streams.0) × (streams.0 ≤ most_load) }
     ensures copies_after { copies.new ≡ written (padded slots.0 (map entry_of (copies_of (disk slots.0 streams.0) (items_in list.old)))) copies.old }
     ensures list_after { items_in list.new ≡ list_after (disk slots.0 streams.0) (items_in list.old) }
     ensures copies_value { result.copies ≡ length (copies_of (disk slots.0 streams.0) (items_in list.old)) }
@@ -53,9 +52,9 @@ fn fill_one(copies: &mut [u64], list: &mut WorkingList, slots: Slots, streams: S
 {
     let places = slots.0 as usize;
     let load = streams.0;
-    let keys = list.keys();
-    let found = find_window(keys, places, load);
+    let found = find_window(list, places, load);
     let over = found.sum.saturating_sub(load);
+    let keys = list.keys();
     store_entries(copies, &keys[found.start..found.start + found.size], over, places);
     take_window(list, found, over);
     Step {
@@ -73,7 +72,7 @@ pub(crate) fn fill_in_order(
     rack: &[u64],
 ) -> u64
     requires rack_in_bounds { (all_slots (disks_in rack.now) ≤ length copies.old) × (length rack.now ≤ length counts.old) }
-    requires rack_value { (rack_accepted (disks_in rack.now) ≡ true) × Each (Entry most_demand) (items_in list.old) }
+    requires rack_value { rack_accepted (disks_in rack.now) ≡ true }
     ensures copies_after { copies.new ≡ written (places (disks_in rack.now) (placed (disks_in rack.now) (items_in list.old))) copies.old }
     ensures counts_after { counts.new ≡ written (map length (placed (disks_in rack.now) (items_in list.old))) counts.old }
     ensures list_after { items_in list.new ≡ remaining (filling (disks_in rack.now)) (items_in list.old) }

@@ -7,8 +7,10 @@ ghost use Rattle.placement.specs.Window.{window, within, slidings, last_window, 
 ghost use Rattle.placement.specs.WellFormed.{Each, Entry};
 ghost use Rattle.planner.specs.Keys.{item_of};
 ghost use Rattle.planner.specs.Search.{Opened};
+ghost use Rattle.planner.specs.WorkingList.{items_in};
 
 use crate::key;
+use crate::worklist::WorkingList;
 
 // A number of opening films and the sum of their amounts.
 #[derive(Clone, Copy)]
@@ -73,12 +75,12 @@ fn slide(keys: &[u64], slots: usize, load: u32, first: u32) -> Found
 }
 
 // The window of a disk.
-pub(crate) fn find_window(keys: &[u64], slots: usize, load: u32) -> Found
-    requires some_slots { 1 ≤ slots }
-    requires le_load { (1 ≤ load) × (load ≤ 65535) × Each (Entry most_demand) (map item_of keys.now) }
-    ensures size_value { window result.start result.size ≡ window_of (disk slots load) (map item_of keys.now) }
-    ensures sum_value { result.sum ≡ total (within (window result.start result.size) (map item_of keys.now)) }
+pub(crate) fn find_window(list: &WorkingList, slots: usize, load: u32) -> Found
+    requires { (1 ≤ slots) × (1 ≤ load) × (load ≤ 65535) }
+    ensures size_value { window result.start result.size ≡ window_of (disk slots load) (items_in list.now) }
+    ensures sum_value { result.sum ≡ total (within (window result.start result.size) (items_in list.now)) }
 {
+    let keys = list.keys();
     let first = opening(keys, slots, load);
     if load <= first.sum {
         return Found {

@@ -1,16 +1,12 @@
 -- `planner::fill::fill_in_order` meets its contract. The invariant: the first disks of the filling order are filled from the list.
-use mathlib.Core.Path.{◌≡◌, refl, sym, ap, subst, ◌∙◌}
+use mathlib.Core.Path.{◌≡◌, refl, sym, ap, ◌∙◌}
 use mathlib.Core.List.{List}
 use Prim.Native.Nat.{ℕ, ◌≤◌, ◌<◌, min}
 use native.Mathlib.Omega.{arith}
 use lib.ListN.{length, take, get_or, length-take}
-use Rattle.placement.specs.Items.{Item}
-use Rattle.placement.specs.Rack.{Disk, disk, all_slots, most_demand}
+use Rattle.placement.specs.Rack.{Disk, disk, all_slots}
 use Rattle.placement.specs.Packed.{disk_in, disks_in}
-use Rattle.placement.specs.WellFormed.{Each, Entry}
-use Rattle.placement.specs.Disk.{list_after}
 use Rattle.placement.proofs.Disks.{copies_load}
-use Rattle.placement.proofs.Entries.{after_entries}
 use Rattle.placement.proofs.Racks.{accepted_disks}
 use Rattle.placement.proofs.PackedRacks.{disks_length}
 use Rattle.placement.proofs.WellFormed.{accepted_usable}
@@ -23,14 +19,9 @@ use Rattle.planner.proofs.NextDisk.{NextDisk, number_below, next_disk}
 use Rattle.planner.proofs.FilledTo.{filled_more, all_copies, all_counts, all_remaining, all_served}
 use Rattle.planner.proofs.fill.fill_in_order.Goals as goal
 
--- The next list holds entries again.
-entries_after : (d : Disk) (list : List Item) {after : List Item} → 1 ≤ d.slots → 1 ≤ d.load → Each (Entry most_demand) list → after ≡ list_after d list
-    → Each (Entry most_demand) after
-entries_after d list some_slots some_load entries e = subst (λ (xs : List Item). Each (Entry most_demand) xs) (sym e) (after_entries d list some_slots some_load most_demand entries)
-
 pub filling_order-order-requires : goal.filling_order-order-requires
 filling_order-order-requires c =
-    omega (arith, (accepted_disks (disks_in c.args.rack.now) c.requires.rack_value.0).1, disks_length c.args.rack.now)
+    omega (arith, (accepted_disks (disks_in c.args.rack.now) c.requires.rack_value).1, disks_length c.args.rack.now)
 
 pub slice_bounds-all_slots-end : goal.slice_bounds-all_slots-end
 slice_bounds-all_slots-end c =
@@ -39,7 +30,7 @@ slice_bounds-all_slots-end c =
     let i : ℕ = c.loop-key.key-index in
     let order_is : order ≡ order_keys (disks_in rack) = c.as_slice-keys.ensures.value ∙ c.filling_order-order.ensures in
     let here : i < length rack = omega (arith, c.loop-key-test.true, ap length order_is, order_keys_length (disks_in rack), disks_length rack) in
-    let below : c.film-number.result < length rack = number_below rack order order_is c.requires.rack_value.0 i here c.film-number.ensures in
+    let below : c.film-number.result < length rack = number_below rack order order_is c.requires.rack_value i here c.film-number.ensures in
     omega (arith, below, length-take c.film-number.result rack)
 
 pub bounds-rack-number : goal.bounds-rack-number
@@ -49,7 +40,7 @@ bounds-rack-number c =
     let i : ℕ = c.loop-key.key-index in
     let order_is : order ≡ order_keys (disks_in rack) = c.as_slice-keys.ensures.value ∙ c.filling_order-order.ensures in
     let here : i < length rack = omega (arith, c.loop-key-test.true, ap length order_is, order_keys_length (disks_in rack), disks_length rack) in
-    let below : c.film-number.result < length rack = number_below rack order order_is c.requires.rack_value.0 i here c.film-number.ensures in
+    let below : c.film-number.result < length rack = number_below rack order order_is c.requires.rack_value i here c.film-number.ensures in
     omega (arith, below)
 
 pub slice_bounds-fill_one-count : goal.slice_bounds-fill_one-count
@@ -62,8 +53,8 @@ slice_bounds-fill_one-count c =
     let number : ℕ = c.film-number.result in
     let first : ℕ = c.all_slots-first.result in
     let first_is : first ≡ min (all_slots (take number (disks_in rack))) 2048 = c.all_slots-first.ensures ∙ ap (λ (ds : List Disk). min (all_slots ds) 2048) (sym (take_map disk_in number rack)) in
-    let copies_same : length c.loop-key.copies ≡ length c.args.copies.now = c.loop-key.invariant.2.copies_kept in
-    let d : NextDisk rack i number first (disk_in (get_or rack number 0)).slots (disk_in (get_or rack number 0)).load = next_disk rack order order_is c.requires.rack_value.0 i here c.film-number.ensures first_is refl refl in
+    let copies_same : length c.loop-key.copies ≡ length c.args.copies.now = c.loop-key.invariant.1.copies_kept in
+    let d : NextDisk rack i number first (disk_in (get_or rack number 0)).slots (disk_in (get_or rack number 0)).load = next_disk rack order order_is c.requires.rack_value i here c.film-number.ensures first_is refl refl in
     omega (arith, d.room, c.requires.rack_in_bounds.0, copies_same)
 
 pub slice_bounds-fill_one-start : goal.slice_bounds-fill_one-start
@@ -76,8 +67,8 @@ slice_bounds-fill_one-start c =
     let number : ℕ = c.film-number.result in
     let first : ℕ = c.all_slots-first.result in
     let first_is : first ≡ min (all_slots (take number (disks_in rack))) 2048 = c.all_slots-first.ensures ∙ ap (λ (ds : List Disk). min (all_slots ds) 2048) (sym (take_map disk_in number rack)) in
-    let copies_same : length c.loop-key.copies ≡ length c.args.copies.now = c.loop-key.invariant.2.copies_kept in
-    let d : NextDisk rack i number first (disk_in (get_or rack number 0)).slots (disk_in (get_or rack number 0)).load = next_disk rack order order_is c.requires.rack_value.0 i here c.film-number.ensures first_is refl refl in
+    let copies_same : length c.loop-key.copies ≡ length c.args.copies.now = c.loop-key.invariant.1.copies_kept in
+    let d : NextDisk rack i number first (disk_in (get_or rack number 0)).slots (disk_in (get_or rack number 0)).load = next_disk rack order order_is c.requires.rack_value i here c.film-number.ensures first_is refl refl in
     omega (arith, d.room, c.requires.rack_in_bounds.0, copies_same)
 
 pub fill_one-step-requires : goal.fill_one-step-requires
@@ -90,12 +81,12 @@ fill_one-step-requires c =
     let number : ℕ = c.film-number.result in
     let first : ℕ = c.all_slots-first.result in
     let first_is : first ≡ min (all_slots (take number (disks_in rack))) 2048 = c.all_slots-first.ensures ∙ ap (λ (ds : List Disk). min (all_slots ds) 2048) (sym (take_map disk_in number rack)) in
-    let copies_same : length c.loop-key.copies ≡ length c.args.copies.now = c.loop-key.invariant.2.copies_kept in
-    let d : NextDisk rack i number first c.disk_slots.result.0 c.disk_streams.result.0 = next_disk rack order order_is c.requires.rack_value.0 i here c.film-number.ensures first_is c.disk_slots.ensures c.disk_streams.ensures in
+    let copies_same : length c.loop-key.copies ≡ length c.args.copies.now = c.loop-key.invariant.1.copies_kept in
+    let d : NextDisk rack i number first c.disk_slots.result.0 c.disk_streams.result.0 = next_disk rack order order_is c.requires.rack_value i here c.film-number.ensures first_is c.disk_slots.ensures c.disk_streams.ensures in
     let r = d.range in
     record {
       slots_in_bounds = part_room c.loop-key.copies first c.disk_slots.result.0 (omega (arith, d.room, c.requires.rack_in_bounds.0, copies_same));
-      le_slots = (r.some_slots, r.some_load, r.load, c.loop-key.invariant.1);
+      le_slots = (r.some_slots, r.some_load, r.load);
     }
 
 pub bounds-counts-number : goal.bounds-counts-number
@@ -105,8 +96,8 @@ bounds-counts-number c =
     let i : ℕ = c.loop-key.key-index in
     let order_is : order ≡ order_keys (disks_in rack) = c.as_slice-keys.ensures.value ∙ c.filling_order-order.ensures in
     let here : i < length rack = omega (arith, c.loop-key-test.true, ap length order_is, order_keys_length (disks_in rack), disks_length rack) in
-    let below : c.film-number.result < length rack = number_below rack order order_is c.requires.rack_value.0 i here c.film-number.ensures in
-    omega (arith, below, c.loop-key.invariant.2.counts_kept, c.requires.rack_in_bounds.1)
+    let below : c.film-number.result < length rack = number_below rack order order_is c.requires.rack_value i here c.film-number.ensures in
+    omega (arith, below, c.loop-key.invariant.1.counts_kept, c.requires.rack_in_bounds.1)
 
 pub overflow_add-served : goal.overflow_add-served
 overflow_add-served c =
@@ -118,8 +109,8 @@ overflow_add-served c =
     let number : ℕ = c.film-number.result in
     let first : ℕ = c.all_slots-first.result in
     let first_is : first ≡ min (all_slots (take number (disks_in rack))) 2048 = c.all_slots-first.ensures ∙ ap (λ (ds : List Disk). min (all_slots ds) 2048) (sym (take_map disk_in number rack)) in
-    let copies_same : length c.loop-key.copies ≡ length c.args.copies.now = c.loop-key.invariant.2.copies_kept in
-    let d : NextDisk rack i number first c.disk_slots.result.0 c.disk_streams.result.0 = next_disk rack order order_is c.requires.rack_value.0 i here c.film-number.ensures first_is c.disk_slots.ensures c.disk_streams.ensures in
+    let copies_same : length c.loop-key.copies ≡ length c.args.copies.now = c.loop-key.invariant.1.copies_kept in
+    let d : NextDisk rack i number first c.disk_slots.result.0 c.disk_streams.result.0 = next_disk rack order order_is c.requires.rack_value i here c.film-number.ensures first_is c.disk_slots.ensures c.disk_streams.ensures in
     let r = d.range in
     let each : Disk = disk c.disk_slots.result.0 c.disk_streams.result.0 in
     let served_most : c.fill_one-step.result.served ≤ 65535 = omega (arith, c.fill_one-step.ensures.served_value, copies_load each (items_in c.loop-key.list) r.some_slots r.some_load, r.load) in
@@ -127,7 +118,7 @@ overflow_add-served c =
       arith,
       served_most,
       c.loop-key.invariant.0,
-      (accepted_disks (disks_in rack) c.requires.rack_value.0).1,
+      (accepted_disks (disks_in rack) c.requires.rack_value).1,
       disks_length rack,
     )
 
@@ -141,15 +132,14 @@ loop-key-preserved c =
     let number : ℕ = c.film-number.result in
     let first : ℕ = c.all_slots-first.result in
     let first_is : first ≡ min (all_slots (take number (disks_in rack))) 2048 = c.all_slots-first.ensures ∙ ap (λ (ds : List Disk). min (all_slots ds) 2048) (sym (take_map disk_in number rack)) in
-    let copies_same : length c.loop-key.copies ≡ length c.args.copies.now = c.loop-key.invariant.2.copies_kept in
-    let d : NextDisk rack i number first c.disk_slots.result.0 c.disk_streams.result.0 = next_disk rack order order_is c.requires.rack_value.0 i here c.film-number.ensures first_is c.disk_slots.ensures c.disk_streams.ensures in
+    let copies_same : length c.loop-key.copies ≡ length c.args.copies.now = c.loop-key.invariant.1.copies_kept in
+    let d : NextDisk rack i number first c.disk_slots.result.0 c.disk_streams.result.0 = next_disk rack order order_is c.requires.rack_value i here c.film-number.ensures first_is c.disk_slots.ensures c.disk_streams.ensures in
     let r = d.range in
     let each : Disk = disk c.disk_slots.result.0 c.disk_streams.result.0 in
     let served_most : c.fill_one-step.result.served ≤ 65535 = omega (arith, c.fill_one-step.ensures.served_value, copies_load each (items_in c.loop-key.list) r.some_slots r.some_load, r.load) in
     let told = c.fill_one-step.ensures in (
       omega (arith, served_most, c.loop-key.invariant.0),
-      entries_after each (items_in c.loop-key.list) r.some_slots r.some_load c.loop-key.invariant.1 told.list_after,
-      filled_more c.loop-key.invariant.2 each number first (omega (arith, here, disks_length rack))
+      filled_more c.loop-key.invariant.1 each number first (omega (arith, here, disks_length rack))
           d.numbered d.is d.place _ r.some_slots r.some_load (omega (arith, c.requires.rack_in_bounds.0, copies_same))
           (omega (arith, d.room, c.requires.rack_in_bounds.0, copies_same)) told.copies_after told.list_after told.copies_value told.served_value,
     )
@@ -158,9 +148,9 @@ pub returns : goal.returns
 returns c =
     let rack : List ℕ = c.args.rack.now in
     let order_is : c.as_slice-keys.result.now ≡ order_keys (disks_in rack) = c.as_slice-keys.ensures.value ∙ c.filling_order-order.ensures in
-    let f = c.loop-key.invariant.2 in
+    let f = c.loop-key.invariant.1 in
     let past : length (disks_in rack) ≤ c.loop-key.key-index = omega (arith, c.loop-key-test.false, ap length order_is, order_keys_length (disks_in rack)) in
-    let usable = accepted_usable (disks_in rack) c.requires.rack_value.0 in
+    let usable = accepted_usable (disks_in rack) c.requires.rack_value in
     let room_c : length (disks_in rack) ≤ length c.args.counts.now = omega (arith, disks_length rack, c.requires.rack_in_bounds.1) in
     record {
       copies_after = all_copies f past usable c.requires.rack_in_bounds.0 room_c;

@@ -3,14 +3,14 @@ use mathlib.Core.Path.{sym, ap, ap₂, ◌∙◌}
 use mathlib.Core.List.{List, map}
 use Prim.Native.Nat.{ℕ, ◌+◌, ◌-◌, ◌≤◌}
 use native.Mathlib.Omega.{arith}
-use lib.ListN.{get_or, length-map}
+use lib.ListN.{length, get_or, length-map}
 use Rattle.placement.specs.Items.{Item, item, enter, insert_by, before}
 use Rattle.placement.specs.Disk.{last_film}
 use Rattle.placement.specs.Window.{Window, window, within, outside}
 use Rattle.placement.proofs.Tests.{passed}
 use Rattle.planner.specs.Keys.{item_of}
 use Rattle.planner.specs.WorkingList.{items_in}
-use Rattle.planner.proofs.Remainder.{last_some, remainder_key}
+use Rattle.planner.proofs.Remainder.{last_some, remainder_key, remainder_entry}
 use Rattle.planner.proofs.fill.take_window.Goals as goal
 
 pub returns-then-over-lt1 : goal.returns-then-over-lt1
@@ -32,3 +32,15 @@ returns c =
     (remainder_key keys start size c.args.over c.film-film.result c.make.result (omega (arith, c.requires.inside, length-map keys item_of)) some
     (c.film-film.ensures ∙ ap (λ (l : List ℕ). (item_of (get_or l (start + (size - 1)) 0)).film) c.keys.ensures.value) c.make.ensures)
     c.remove_run-2.ensures
+
+pub enter-requires-clause-entry : goal.enter-requires-clause-entry
+enter-requires-clause-entry c =
+    let list = c.args.list.now in
+    let keys : List ℕ = list.keys.items in
+    let start : ℕ = c.args.found.start in
+    let size : ℕ = c.args.found.size in
+    let some : 1 ≤ size = last_some (map item_of keys) start size c.args.over (omega arith) c.requires.over_bound in
+    let inside : start + size ≤ length keys = omega (arith, c.requires.inside, length-map keys item_of) in
+    remainder_entry keys start size c.args.over c.make.result inside some list.entries c.requires.over_bound
+    (remainder_key keys start size c.args.over c.film-film.result c.make.result inside some
+    (c.film-film.ensures ∙ ap (λ (l : List ℕ). (item_of (get_or l (start + (size - 1)) 0)).film) c.keys.ensures.value) c.make.ensures)

@@ -1,11 +1,10 @@
 -- `planner::fulfil::fill_tables` meets its contract: the steps of planning give the plan of the call.
-use mathlib.Core.Path.{◌≡◌, ap, ap₂, ◌∙◌, sym, subst}
+use mathlib.Core.Path.{◌≡◌, ap, ap₂, ◌∙◌, sym}
 use mathlib.Core.List.{List, ◌++◌, map}
 use Prim.Native.Nat.{ℕ, ◌+◌, ◌-◌}
 use native.Mathlib.Omega.{arith}
 use lib.ListN.{length, take, drop, length-append, length-map}
 use Rattle.placement.specs.Items.{Item, list_of}
-use Rattle.placement.specs.Rack.{most_demand}
 use Rattle.placement.specs.Packed.{disks_in}
 use Rattle.placement.specs.Method.{remaining, served}
 use Rattle.placement.specs.FillingOrder.{filling, placed}
@@ -13,8 +12,6 @@ use Rattle.placement.specs.Shelf.{shelf_films}
 use Rattle.placement.specs.Tables.{Tables, written, places}
 use Rattle.placement.specs.LentTables.{held}
 use Rattle.placement.specs.Planning.{Call, call, records_in, placed_in, left_in}
-use Rattle.placement.specs.WellFormed.{Each, Entry}
-use Rattle.placement.proofs.WellFormed.{list_of_entries}
 use Rattle.planner.specs.Keys.{item_of}
 use Rattle.planner.specs.WorkingList.{items_in}
 use Rattle.planner.proofs.Places.{rest_items}
@@ -23,12 +20,7 @@ use Rattle.planner.proofs.Fulfilled.{left_count, left_small, left_films_lem, ste
 use Rattle.planner.proofs.fulfil.fill_tables.Goals as goal
 
 pub fill_in_order-served-requires-clause-rack_value : goal.fill_in_order-served-requires-clause-rack_value
-fill_in_order-served-requires-clause-rack_value c =
-    let called : Call = call (disks_in c.args.rack.now) c.args.list.now in
-    let formed = c.requires.formed in (
-      formed.rack,
-      subst (λ (xs : List Item). Each (Entry most_demand) xs) (sym c.build.ensures.wanted_after) (list_of_entries (records_in called) formed.accepted),
-    )
+fill_in_order-served-requires-clause-rack_value c = c.requires.formed.rack
 
 pub shelve_all-placed-requires-clause-laid : goal.shelve_all-placed-requires-clause-laid
 shelve_all-placed-requires-clause-laid c =
