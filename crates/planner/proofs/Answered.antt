@@ -1,5 +1,5 @@
 -- The answer of planning and the verdict on the call: a refusal and a plan keep planning's promise.
-use mathlib.Core.Path.{◌≡◌, refl, sym, ap, subst, ◌∙◌}
+use mathlib.Core.Path.{◌≡◌, refl, ap, subst, ◌∙◌}
 use Rattle.std.specs.Prelude.{Result, Ok, Err}
 use Rattle.std.specs.Result.{result_and}
 use Rattle.refusal.specs.Verdict.{Verdict, given, refused, followed_by, Numbers, answered}

@@ -7,7 +7,7 @@ use native.Mathlib.Omega.{arith}
 use borrow.Author.Tests.{leb-true}
 use lib.Dec.{leb}
 use lib.ListN.{length}
-use Rattle.refusal.specs.Verdict.{given, answered}
+use Rattle.refusal.specs.Verdict.{given}
 use Rattle.placement.specs.Items.{Item, total, amount_of, list_of, by_film}
 use Rattle.placement.specs.Rack.{all_slots}
 use Rattle.placement.specs.Records.{record_count}
@@ -19,12 +19,10 @@ use Rattle.placement.specs.Planning.{Call, sums, sums_in, records_in, placed_in,
 use Rattle.placement.specs.Promise.{Distinct}
 use Rattle.placement.specs.WellFormed.{CallWellFormed}
 use Rattle.placement.proofs.Conjunctions.{both_true}
-use Rattle.placement.proofs.Sums.{length_sum, one}
 use Rattle.placement.proofs.Films.{Usable}
-use Rattle.placement.proofs.Records.{records_length}
 use Rattle.placement.proofs.ByFilm.{sum_by_by_film, by_film_length}
 use Rattle.placement.proofs.WellFormed.{accepted_usable}
-use Rattle.placement.proofs.ShelfFilms.{shelf_sum, shelf_unwanted}
+use Rattle.placement.proofs.ShelfFilms.{shelf_unwanted}
 use Rattle.placement.proofs.ShelfSharing.{shelved_served}
 use Rattle.placement.proofs.ShelfPlan.{left_distinct, left_total}
 use Rattle.placement.proofs.MarkedCopies.{marked_none}

@@ -1,4 +1,5 @@
-// The plan of a call that is not refused: the list, the disks in order, the shelf copies, and what is left.
+// The plan of a call that is not refused: the list, the disks in order, the shelf copies, and what is
+// left.
 ghost use Rattle.std.specs.Prelude.{◌≡◌};
 ghost use Rattle.placement.specs.Packed.{disks_in};
 ghost use Rattle.placement.specs.LentTables.{held, SameSlices};
@@ -14,11 +15,13 @@ use crate::shelf::shelve_all;
 use crate::worklist::WorkingList;
 use placement::LentTables;
 
-// Plans into the lent tables. What is left is the films of demand 0 without a slot, and what the method leaves.
+// Plans into the lent tables. What is left is the films of demand 0 without a slot, and what the
+// method leaves.
 pub(crate) fn fill_tables(rack: &[u64], list: &[u8], tables: &mut LentTables) -> PlanSums
     requires { Plannable (call (disks_in rack.now) list.now) (held tables.old) }
     ensures result_value { sums_of result ≡ sums_in (call (disks_in rack.now) list.now) }
-    ensures planned { held tables.new ≡ holding_call (call (disks_in rack.now) list.now) (held tables.old) }
+    ensures planned { held tables.new
+        ≡ holding_call (call (disks_in rack.now) list.now) (held tables.old) }
     ensures same { SameSlices tables.old tables.new }
 {
     let mut films = WorkingList::new();

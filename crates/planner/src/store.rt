@@ -27,7 +27,8 @@ fn entry_at(run: &[u64], over: u32, place: usize) -> u64
 pub(crate) fn store_entries(table: &mut [u64], run: &[u64], over: u32, places: usize)
     requires places_in_bounds { (length run.now ≤ places) × (places ≤ length table.old) }
     requires over_bound { over ≤ (last_film (map item_of run.now)).amount }
-    ensures { table.new ≡ written (padded places (map entry_of (less_last over (map item_of run.now)))) table.old }
+    ensures { table.new
+        ≡ written (padded places (map entry_of (less_last over (map item_of run.now)))) table.old }
 {
     for place in 0..places {
         table[place] = entry_at(run, over, place);

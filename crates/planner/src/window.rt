@@ -1,9 +1,11 @@
-// The search for a disk's window: opening films, sliding windows, the last window. The running total is a number of 32 bits. It is below
-// the load when a film is added, so that no sum passes 1,065,534: a load of 65,535 less 1, and a demand of 1,000,000.
+// The search for a disk's window: opening films, sliding windows, the last window. The running
+// total is a number of 32 bits. It is below the load when a film is added, so that no sum passes
+// 1,065,534: a load of 65,535 less 1, and a demand of 1,000,000.
 ghost use Rattle.std.specs.Prelude.{◌≡◌, ◌≤◌, ◌<◌, map, length, take};
 ghost use Rattle.placement.specs.Items.{total};
 ghost use Rattle.placement.specs.Rack.{disk, most_demand};
-ghost use Rattle.placement.specs.Window.{window, within, slidings, last_window, first_reaching, window_of};
+ghost use Rattle.placement.specs.Window.{window, within, window_of};
+ghost use Rattle.placement.specs.Window.{slidings, last_window, first_reaching};
 ghost use Rattle.placement.specs.WellFormed.{Each, Entry};
 ghost use Rattle.planner.specs.Keys.{item_of};
 ghost use Rattle.planner.specs.Search.{Opened};
@@ -46,14 +48,17 @@ fn opening(keys: &[u64], slots: usize, load: u32) -> Prefix
     Prefix { count: most, sum }
 }
 
-// The first window of `slots` films from the second film on that reaches the load, or the last window. `first` is the sum
-// of the window at the list's start, and the sum goes along: a turn takes the first film out and the next one in.
+// The first window of `slots` films from the second film on that reaches the load, or the last
+// window. `first` is the sum of the window at the list's start, and the sum goes along: a turn takes
+// the first film out and the next one in.
 fn slide(keys: &[u64], slots: usize, load: u32, first: u32) -> Found
     requires in_range { (1 ≤ slots) × (load ≤ 65535) × Each (Entry most_demand) (map item_of keys.now) }
     requires first_value { (first ≡ total (take slots (map item_of keys.now))) × (first < load) }
     ensures size_value { window result.start result.size
-        ≡ first_reaching load (map item_of keys.now) (slidings slots (length keys.now)) (last_window slots (length keys.now)) }
-    ensures sum_value { result.sum ≡ total (within (window result.start result.size) (map item_of keys.now)) }
+        ≡ first_reaching load (map item_of keys.now)
+        (slidings slots (length keys.now)) (last_window slots (length keys.now)) }
+    ensures sum_value { result.sum
+        ≡ total (within (window result.start result.size) (map item_of keys.now)) }
 {
     let last = keys.len().saturating_sub(slots);
     let mut sum = first;
@@ -77,8 +82,10 @@ fn slide(keys: &[u64], slots: usize, load: u32, first: u32) -> Found
 // The window of a disk.
 pub(crate) fn find_window(list: &WorkingList, slots: usize, load: u32) -> Found
     requires { (1 ≤ slots) × (1 ≤ load) × (load ≤ 65535) }
-    ensures size_value { window result.start result.size ≡ window_of (disk slots load) (items_in list.now) }
-    ensures sum_value { result.sum ≡ total (within (window result.start result.size) (items_in list.now)) }
+    ensures size_value { window result.start result.size
+        ≡ window_of (disk slots load) (items_in list.now) }
+    ensures sum_value { result.sum
+        ≡ total (within (window result.start result.size) (items_in list.now)) }
 {
     let keys = list.keys();
     let first = opening(keys, slots, load);

@@ -1,5 +1,4 @@
 -- `planner::plan` keeps planning's whole promise.
-use Rattle.refusal.specs.Verdict.{given}
 use Rattle.placement.specs.Packed.{disks_in}
 use Rattle.placement.specs.Tables.{tables}
 use Rattle.placement.specs.Planning.{call}

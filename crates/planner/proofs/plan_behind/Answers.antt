@@ -1,7 +1,7 @@
 -- `planner::plan_behind` keeps its promise: planning's refusals, then the other one, then the plan.
 use Rattle.std.proofs.lemmas.Result.{err_from_is_err_and}
 use Rattle.std.specs.Result.{result_and}
-use mathlib.Core.Path.{◌≡◌, refl, ap, ◌∙◌}
+use mathlib.Core.Path.{◌≡◌, ap, ◌∙◌}
 use Rattle.refusal.specs.Verdict.{Verdict, followed_by}
 use Rattle.refusal.specs.Numbers.{verdict_of}
 use Rattle.placement.specs.Packed.{disks_in}

@@ -1,9 +1,8 @@
 -- `planner::judge::judge` meets its contract: the tests that led to each `return` give the verdict.
-use mathlib.Core.Path.{◌≡◌, refl, sym, ap, ap₂, ◌∙◌}
+use mathlib.Core.Path.{◌≡◌, refl, sym, ap, ◌∙◌}
 use mathlib.Core.Bool.{true, false}
 use mathlib.Core.List.{List}
 use Prim.Native.Nat.{ℕ}
-use lib.ListN.{length}
 use Rattle.refusal.specs.Verdict.{Verdict, given, refused}
 use Rattle.refusal.proofs.Verdicts.{and_then, unless_passes, unless_refuses}
 use Rattle.std.proofs.lemmas.Result.{err_from_is_err_and}
@@ -11,7 +10,7 @@ use Rattle.placement.specs.Rack.{Disk}
 use Rattle.placement.specs.Packed.{disks_in}
 use Rattle.placement.specs.LentTables.{held}
 use Rattle.placement.specs.Records.{record_count, shape_judged, records_judged, list_judged}
-use Rattle.placement.specs.Tables.{Tables, room_in, room_for}
+use Rattle.placement.specs.Tables.{Tables, room_for}
 use Rattle.placement.specs.Planning.{call, rack_judged, room_judged, verdict}
 use Rattle.placement.proofs.Chains.{rack_then, shape_then}
 use Rattle.planner.proofs.judge.judge.Goals as goal

@@ -21,7 +21,7 @@ loop-place-preserved c =
     let all : length new ≡ c.args.places = (let a = c.args in padded_length a.places entries (omega (arith, entries_length a.run.now a.over))) in
     let place = c.loop-place.place in
     stored_more c.args.places entries c.args.table.now c.loop-place.table place c.entry_at.result
-          c.loop-place.invariant c.entry_at.ensures (omega (arith, all)) (omega arith)
+    c.loop-place.invariant c.entry_at.ensures (omega (arith, all)) (omega arith)
 
 pub returns : goal.returns
 returns c =

@@ -7,4 +7,3 @@ use Rattle.planner.proofs.store.store_entries.Given as goal
 
 abbrev pub invariant-loop-place : goal.invariant-loop-place
 invariant-loop-place l = l.table ≡ overwritten (padded l.places (entries_of l.run l.over)) l.initial.table l.place
-

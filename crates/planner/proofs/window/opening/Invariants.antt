@@ -4,4 +4,3 @@ use Rattle.planner.proofs.window.opening.Given as goal
 
 abbrev pub invariant-loop-passed : goal.invariant-loop-passed
 invariant-loop-passed l = OpeningsPassed l.keys l.slots l.load l.most l.passed l.sum
-

@@ -4,4 +4,3 @@ use Rattle.planner.proofs.window.slide.Given as goal
 
 abbrev pub invariant-loop-start : goal.invariant-loop-start
 invariant-loop-start l = SlidesPassed l.keys l.slots l.load l.start l.sum
-
