@@ -37,6 +37,12 @@ impl OwnPlan {
         let disks = &self.rack[..read.disks as usize];
         let films = read.left as usize;
         disks.len() <= rack.len()
-            && room(disks, films, lent.copies.len(), lent.counts.len(), lent.left.len())
+            && room(
+                disks,
+                films,
+                lent.copies.len(),
+                lent.counts.len(),
+                lent.left.len(),
+            )
     }
 }

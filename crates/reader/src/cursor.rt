@@ -1,5 +1,6 @@
 // The cursor over a text: bytes that are determined, and numbers.
-ghost use Rattle.std.specs.Prelude.{◌≡◌, ◌+◌, ◌*◌, true, false, length, eqb, Some, IfNone};
+ghost use Rattle.std.specs.Prelude.{◌≡◌, ◌+◌, ◌*◌, true, false};
+ghost use Rattle.std.specs.Prelude.{length, eqb, Some, IfNone};
 ghost use Rattle.plan_text.specs.Decimal.{decimal};
 ghost use Rattle.plan_text.specs.Parse.{byte, literal, number, digits};
 ghost use Rattle.plan_text.specs.Capped.{saturated};

@@ -7,7 +7,8 @@ use placement::disk_slots;
 use refusal::Refusal;
 
 impl<'a> Cursor<'a> {
-    // Reads the lines of all disks: what they serve; each disk's copies are stored from its first place on.
+    // Reads the lines of all disks, and sums up what they serve; each disk's copies are stored from
+    // its first place on.
     pub(crate) fn disk_lines(
         &mut self,
         rack: &[u64],

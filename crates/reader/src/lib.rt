@@ -1,4 +1,5 @@
-// The reader of plan texts: a text is judged line by line, and its plan is stored in a lent list of packed disks and lent tables.
+// The reader of plan texts: a text is judged line by line, and its plan is stored in a lent list
+// of packed disks and lent tables.
 #![tactic(auto)]
 
 mod answer; // answer.rt: what reading answers where it does not refuse
@@ -24,7 +25,8 @@ use placement::LentTables;
 use plan::OwnPlan;
 use refusal::Refusal;
 
-// Reads a text: its plan is stored in the lent list of packed disks and the lent tables, or a refusal changes none of them.
+// Reads a text: its plan is stored in the lent list of packed disks and the lent tables, or a
+// refusal changes none of them. (`LentTables` stands inside: this signature is public.)
 pub fn read(
     text: &[u8],
     rack: &mut [u64],

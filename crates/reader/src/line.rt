@@ -53,7 +53,8 @@ impl<'a> Cursor<'a> {
     // Reads the line of a rack of equal disks.
     #[tactic(auto, using(crate::proofs::Lines::line_parts))]
     pub(crate) fn rack_line(&mut self) -> Option<Rack>
-        ensures { parse_by sizes result self.new ≡ line (rack_body saturated) sizes_accepted self.old }
+        ensures { parse_by sizes result self.new
+            ≡ line (rack_body saturated) sizes_accepted self.old }
     {
         let rack = self.rack()?;
         self.end_line(placement::accepted(rack))?;
@@ -68,7 +69,8 @@ impl<'a> Cursor<'a> {
         copies: &mut [u64],
     ) -> Option<PairsLine>
         requires { length copies.old ≡ (disk_in «disk»).slots }
-        ensures { DiskRead number (disk_in «disk») self.old self.new copies.old copies.new result }
+        ensures { DiskRead number (disk_in «disk») self.old self.new
+            copies.old copies.new result }
     {
         self.eat_all(b"(disk ")?;
         self.eat_number(u64::from(number))?;
@@ -96,7 +98,8 @@ impl<'a> Cursor<'a> {
 
     // Reads the served line, with the two sums as they must be.
     pub(crate) fn served_line(&mut self, served: u64, unserved: u64) -> Option<()>
-        ensures { parse_of result self.new ≡ line (literal (served_line served unserved)) (λ a. true) self.old }
+        ensures { parse_of result self.new
+            ≡ line (literal (served_line served unserved)) (λ a. true) self.old }
     {
         self.eat_all(b"(served ")?;
         self.eat_number(served)?;

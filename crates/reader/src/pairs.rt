@@ -16,7 +16,7 @@ pub trait Listed {
     ghost use Rattle.plan_text.specs.Parse.{Parse};
     ghost use Rattle.reader.specs.Cursor.{parse_by};
 
-    // how one is read from the front of a text
+    // how one is read from the front of a text, as the halves of its entry
     ghost reads: { List ℕ → Parse Item };
 
     // Reads one: the low and the high half of its entry.
@@ -33,6 +33,7 @@ impl Listed for Pair {
 
     ghost reads = { pair saturated };
 
+    #[inline]
     fn read(cursor: &mut Cursor) -> Option<(u32, u32)> {
         let (film, amount) = cursor.pair_start()?;
         cursor.eat(b')')?;
@@ -49,6 +50,7 @@ impl Listed for StoredCopy {
     ghost reads = { halves_read };
 
     #[tactic(auto, using(crate::proofs::CopyEnds::halves_parts))]
+    #[inline]
     fn read(cursor: &mut Cursor) -> Option<(u32, u32)> {
         let (film, viewers) = cursor.pair_start()?;
         let low = cursor.copy_end(film, viewers)?;
@@ -58,6 +60,7 @@ impl Listed for StoredCopy {
 
 impl<'a> Cursor<'a> {
     // Reads the two numbers of a pair.
+    #[inline]
     fn pair_start(&mut self) -> Option<(u32, u32)>
         ensures { parse_by (λ p. item p.0 p.1) result self.new ≡ pair_start saturated self.old }
     {
@@ -70,8 +73,10 @@ impl<'a> Cursor<'a> {
 
     // Reads the end of a copy of this film; the mark goes into the low half.
     #[tactic(auto, using(crate::proofs::CopyEnds::end_large, crate::proofs::CopyEnds::end_closed, crate::proofs::CopyEnds::end_held))]
+    #[inline]
     fn copy_end(&mut self, film: u32, viewers: u32) -> Option<u32>
-        ensures { parse_by (λ f. item f viewers) result self.new ≡ halves_end (item film viewers) self.old }
+        ensures { parse_by (λ f. item f viewers) result self.new
+            ≡ halves_end (item film viewers) self.old }
     {
         if film > MOST_PLAN_FILM {
             return None;
@@ -83,7 +88,8 @@ impl<'a> Cursor<'a> {
         Some(film + MARK)
     }
 
-    // Reads what a line lists up to its closing bracket, as much as there are places, and stores the entries from the front.
+    // Reads what a line lists up to its closing bracket, as much as there are places, and stores
+    // the entries from the front.
     pub(crate) fn listed<L: Listed>(&mut self, entries: &mut [u64]) -> Option<usize>
         ensures { PairsRead L.reads self.old self.new entries.old entries.new result }
     {

@@ -8,7 +8,8 @@ use crate::line::PairsLine;
 use refusal::Refusal;
 
 impl<'a> Cursor<'a> {
-    // Reads from line `first` to the end of the text, behind disks that serve so many; the left films are stored from the front.
+    // Reads from line `first` to the end of the text, behind disks that serve so many; the left
+    // films are stored from the front.
     pub(crate) fn tail_lines(
         &mut self,
         first: u32,
