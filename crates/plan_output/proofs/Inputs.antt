@@ -8,11 +8,12 @@ use borrow.Author.Tests.{lt-ltb, le-ltb}
 use lib.Dec.{ltb}
 use lib.ListN.{length, take, drop, replicate, length-drop}
 use lib.Seq.{take-length}
-use Rattle.placement.specs.Rack.{Disk, rack_of, sizes_in_range}
+use Rattle.placement.specs.Rack.{Disk, in_range, most_disks, rack_of, sizes_in_range}
 use Rattle.placement.specs.Packed.{disk_in, disks_in}
 use Rattle.placement.specs.Records.{number32}
 use Rattle.placement.specs.Planning.{call}
-use Rattle.placement.proofs.Conjunctions.{cond_true, cond_false}
+use Rattle.placement.proofs.Conjunctions.{both_true, cond_true, cond_false}
+use Rattle.placement.proofs.Tests.{in_range_bounds}
 use Rattle.plan_text.specs.RefusalLine.{refusal_text}
 use Rattle.plan_output.specs.Input.{head_bytes, sizes_in, call_in}
 use Rattle.plan_output.specs.Output.{printed_for, sized_output, output_of}
@@ -53,10 +54,16 @@ module _ (input : List ℕ) where
       ∙ ap (λ (n : ℕ). call (rack_of (number32 input 0) (number32 input 4) n) (drop head_bytes input)) l
 
 -- The first n of equal numbers are n equal disks.
-pub equal_disks : (n number : ℕ) {d : Disk} → n ≤ 64 → disk_in number ≡ d → disks_in (take n (replicate 64 number)) ≡ replicate n d
+equal_disks : (n number : ℕ) {d : Disk} → n ≤ 64 → disk_in number ≡ d → disks_in (take n (replicate 64 number)) ≡ replicate n d
 equal_disks n number {d} few is = go n 64 few
   where
     go : (n m : ℕ) → n ≤ m → disks_in (take n (replicate m number)) ≡ replicate n d
     go zero m h = refl
     go (suc n) zero h = absurd (omega arith)
     go (suc n) (suc m) h = ap₂ (λ (x : Disk) (xs : List Disk). x ∷ xs) is (go n m (omega arith))
+
+-- N of them, where N, k and L are in range.
+pub sized_disks :
+    (n k l number : ℕ) {d : Disk} → sizes_in_range n k l ≡ true → disk_in number ≡ d → disks_in (take n (replicate 64 number)) ≡ replicate n d
+sized_disks n k l number sizes is =
+    equal_disks n number (in_range_bounds most_disks n (both_true (in_range most_disks n) _ sizes).0).1 is

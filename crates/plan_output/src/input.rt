@@ -11,13 +11,10 @@ pub const MOST_KEPT: usize = 8_219;
 pub fn keep(before: usize, more: usize) -> usize
     ensures { KeepPromise before more result }
 {
-    if before > MOST_KEPT {
-        return long(before, more);
+    match before.checked_add(more) {
+        Some(whole) if whole <= MOST_KEPT => whole,
+        _ => long(before, more),
     }
-    if more > MOST_KEPT - before {
-        return long(before, more);
-    }
-    before + more
 }
 
 // The kept length where the two have more than MOST_KEPT bytes together.

@@ -2,8 +2,6 @@
 ghost use Rattle.std.specs.Prelude.{◌≡◌, true};
 ghost use Rattle.refusal.specs.Numbers.{number_of, second_of};
 ghost use Rattle.placement.specs.Rack.{disks_of, sizes_in_range};
-ghost use Rattle.placement.specs.Packed.{disks_in};
-ghost use Rattle.placement.specs.Tables.{tables, own_tables};
 ghost use Rattle.placement.specs.Planning.{call};
 ghost use Rattle.plan_text.specs.RefusalLine.{refusal_text};
 ghost use Rattle.writer.specs.Answers.{written_numbers};
@@ -12,7 +10,7 @@ ghost use Rattle.plan_output.specs.OutputPromise.{OutputPromise};
 ghost use Rattle.writer.specs.Shown.{Shown};
 
 use demand_list::number32;
-use placement::{Rack, Slots, Streams, accepted, disk_of};
+use placement::{PlanTables, Rack, Slots, Streams, accepted, disk_of};
 use refusal::Refusal;
 use writer::write_refusal;
 
@@ -35,43 +33,26 @@ fn length_of(written: Result<u64, Refusal>) -> usize
     written.unwrap_or(0) as usize
 }
 
-// Plans into tables that are all zero, and writes the text of the plan or the line of the refusal.
-fn print_with(
-    rack: &[u64],
-    list: &[u8],
-    copies: &mut [u64],
-    counts: &mut [u32],
-    left: &mut [u64],
-    text: &mut [u8],
-) -> usize
-    requires { tables copies.old counts.old left.old ≡ own_tables }
-    ensures { Shown (printed_for (call (disks_in rack.now) list.now)) text.old text.new result }
-{
-    match planner::plan(rack, list, copies, counts, left) {
-        Ok(sums) => length_of(writer::write(rack, copies, counts, left, sums.left, text)),
-        Err(refusal) => refuse(refusal, text),
-    }
-}
-
-// The same for N equal disks, with tables made for it: room for the largest rack and the longest list.
-fn print_call(rack: Rack, list: &[u8], text: &mut [u8]) -> usize
+// Plans for N equal disks into tables made for it, with room for the largest rack and the longest list, and writes the text
+// of the plan or the line of the refusal.
+fn print_plan(rack: Rack, list: &[u8], text: &mut [u8]) -> usize
     requires { sizes_in_range rack.disks rack.slots.0 rack.streams.0 ≡ true }
     ensures { Shown (printed_for (call (disks_of rack) list.now)) text.old text.new result }
 {
-    let disks = rack.disks as usize;
-    let disk = disk_of(rack.slots, rack.streams);
-    let entries = [disk; 64];
-    let mut copies = [0u64; 2048];
-    let mut counts = [0u32; 64];
-    let mut left = [0u64; 1024];
-    print_with(
-        &entries[..disks],
-        list,
-        &mut copies,
-        &mut counts,
-        &mut left,
-        text,
-    )
+    let equal = [disk_of(rack.slots, rack.streams); 64];
+    let disks = &equal[..rack.disks as usize];
+    let mut own = PlanTables::new();
+    match planner::plan(disks, list, &mut own.copies, &mut own.counts, &mut own.left) {
+        Ok(sums) => length_of(writer::write(
+            disks,
+            &own.copies,
+            &own.counts,
+            &own.left,
+            sums.left,
+            text,
+        )),
+        Err(refusal) => refuse(refusal, text),
+    }
 }
 
 // Writes what `plan` prints for this input, and answers how many bytes that is, or 0 where the space is too short.
@@ -89,5 +70,5 @@ pub fn output(input: &[u8], text: &mut [u8]) -> usize
     if !accepted(rack) {
         return refuse(Refusal::RackOutOfRange, text);
     }
-    print_call(rack, &input[HEAD..], text)
+    print_plan(rack, &input[HEAD..], text)
 }

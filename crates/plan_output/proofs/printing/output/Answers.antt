@@ -24,4 +24,4 @@ returns c =
     let sizes : c.accepted.result ≡ sizes_in c.args.input.now = c.accepted.ensures ∙ sizes_same c.args.input.now c.number32.ensures c.number32-2.ensures c.number32-3.ensures in
     let inside : sizes_in c.args.input.now ≡ true = sym sizes ∙ c.if-not-accepted.false in
     long_promise (call_same c.args.input.now c.number32.ensures c.number32-2.ensures c.number32-3.ensures)
-    long inside c.print_call.ensures
+    long inside c.print_plan.ensures
