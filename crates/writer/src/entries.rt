@@ -3,7 +3,7 @@ ghost use Rattle.std.specs.Prelude.{ℕ, List};
 ghost use Rattle.placement.specs.Tables.{item_in, copy_in};
 ghost use Rattle.plan_text.specs.Text.{pair_text, mark_end, copy_text, spaced_text};
 
-use crate::number::{put_number, put_two, put_word};
+use crate::number::{put_two, put_word};
 use crate::sink::Sink;
 
 // How an entry of a table stands in a line.
@@ -49,9 +49,9 @@ impl EntryText for MarkedCopy {
 
     fn put<S: Sink>(sink: &mut S, entry: u64) {
         sink.put_byte(b'(');
-        put_number(sink, u64::from(placement::copy_film(entry)));
+        sink.put_number(u64::from(placement::copy_film(entry)));
         sink.put_byte(b' ');
-        put_number(sink, u64::from(placement::entry_amount(entry)));
+        sink.put_number(u64::from(placement::entry_amount(entry)));
         put_mark(sink, placement::copy_mark(entry));
     }
 }

@@ -4,7 +4,7 @@ ghost use Rattle.placement.specs.Tables.{item_in, copies_in};
 ghost use Rattle.plan_text.specs.Text.{pairs_text, line_feed, lines, rack_line, disk_line, served_line};
 
 use crate::entries::{MarkedCopy, Pair, put_entries};
-use crate::number::{put_number, put_two, put_word};
+use crate::number::{put_two, put_word};
 use crate::sink::Sink;
 
 // Puts the rack line.
@@ -12,7 +12,7 @@ pub(crate) fn put_rack<S: Sink>(sink: &mut S, disks: u32, slots: u32, streams: u
     ensures { S.takes sink.old (lines (rack_line disks slots streams ∷ [])) sink.new }
 {
     put_word(sink, b"(rack ");
-    put_number(sink, u64::from(disks));
+    sink.put_number(u64::from(disks));
     sink.put_byte(b' ');
     put_two(sink, u64::from(slots), u64::from(streams));
     sink.put_byte(b'\n');
@@ -32,7 +32,7 @@ pub(crate) fn put_disk<S: Sink>(sink: &mut S, number: u64, copies: &[u64])
     ensures { S.takes sink.old (lines (disk_line number (copies_in copies.now) ∷ [])) sink.new }
 {
     put_word(sink, b"(disk ");
-    put_number(sink, number);
+    sink.put_number(number);
     put_entries::<MarkedCopy, S>(sink, copies);
     sink.put_byte(b'\n');
 }

@@ -13,24 +13,12 @@ pub(crate) fn put_word<S: Sink>(sink: &mut S, word: &[u8])
     }
 }
 
-// Puts a number in decimal: the digits of its tenth, then its last digit.
-pub(crate) fn put_number<S: Sink>(sink: &mut S, number: u64)
-    ensures { S.takes sink.old (decimal number) sink.new }
-{
-    if number < 10 {
-        sink.put_byte(b'0' + number as u8);
-        return;
-    }
-    put_number(sink, number / 10);
-    sink.put_byte(b'0' + (number % 10) as u8);
-}
-
 // Puts two numbers with a space between them and a closing bracket behind.
 pub(crate) fn put_two<S: Sink>(sink: &mut S, first: u64, second: u64)
     ensures { S.takes sink.old (two_text first second) sink.new }
 {
-    put_number(sink, first);
+    sink.put_number(first);
     sink.put_byte(b' ');
-    put_number(sink, second);
+    sink.put_number(second);
     sink.put_byte(b')');
 }

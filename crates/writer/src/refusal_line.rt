@@ -2,7 +2,7 @@
 ghost use Rattle.plan_text.specs.RefusalLine.{refusal_end, refusal_text};
 ghost use Rattle.writer.specs.RefusalPromise.{RefusalPromise};
 
-use crate::number::{put_number, put_word};
+use crate::number::put_word;
 use crate::sink::{Count, Sink, Space};
 
 // Puts what follows a refusal's number: the second number where it is not 0, and the closing bracket.
@@ -14,7 +14,7 @@ fn put_end<S: Sink>(sink: &mut S, second: u32)
         return;
     }
     sink.put_byte(b' ');
-    put_number(sink, u64::from(second));
+    sink.put_number(u64::from(second));
     sink.put_byte(b')');
 }
 
@@ -23,7 +23,7 @@ fn put_refusal<S: Sink>(sink: &mut S, number: u32, second: u32)
     ensures { S.takes sink.old (refusal_text number second) sink.new }
 {
     put_word(sink, b"(refused ");
-    put_number(sink, u64::from(number));
+    sink.put_number(u64::from(number));
     put_end(sink, second);
     sink.put_byte(b'\n');
 }

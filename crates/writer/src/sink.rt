@@ -1,6 +1,42 @@
 // What takes the bytes of a text, one after the other: a lent space, or a count of them.
 ghost use Rattle.std.specs.Prelude.{◌≡◌, ℕ, ◌+◌, ◌<◌, ◌^◌, List, [], ◌∷◌, ◌++◌, length};
+ghost use Rattle.plan_text.specs.Decimal.{decimal};
 ghost use Rattle.writer.specs.Space.{Put};
+
+// How many digits a number has.
+fn digits(number: u64) -> usize
+    ensures { result ≡ length (decimal number) }
+{
+    let mut count = 1usize;
+    let mut front = number;
+    while front >= 10 {
+        front /= 10;
+        count += 1;
+    }
+    count
+}
+
+// Stores one byte and answers the next place.
+fn put_byte(out: &mut [u8], at: usize, byte: u8) -> usize
+    ensures { Put at (byte ∷ []) out.old out.new result }
+{
+    if at < out.len() {
+        out[at] = byte;
+    }
+    at.wrapping_add(1)
+}
+
+// Stores a number in decimal: the digits of its tenth, then its last digit. The place travels by value, for speed: kept in
+// the space, writing took a fifth longer.
+fn put_digits(out: &mut [u8], at: usize, number: u64) -> usize
+    ensures { Put at (decimal number) out.old out.new result }
+{
+    if number < 10 {
+        return put_byte(out, at, b'0' + number as u8);
+    }
+    let next = put_digits(out, at, number / 10);
+    put_byte(out, next, b'0' + (number % 10) as u8)
+}
 
 // What takes the bytes of a text.
 pub(crate) trait Sink {
@@ -9,6 +45,10 @@ pub(crate) trait Sink {
 
     fn put_byte(&mut self, byte: u8)
         ensures { takes self.old (byte ∷ []) self.new };
+
+    // In decimal.
+    fn put_number(&mut self, number: u64)
+        ensures { takes self.old (decimal number) self.new };
 
     ghost none: { (s : Self) → takes s [] s };
 
@@ -29,6 +69,10 @@ impl Sink for Count {
         self.bytes = self.bytes.wrapping_add(1);
     }
 
+    fn put_number(&mut self, number: u64) {
+        self.bytes = self.bytes.wrapping_add(digits(number));
+    }
+
     ghost use Rattle.std.proofs.Common.{arith, length-append};
 
     ghost none = { λ s h. Prim.grind arith };
@@ -47,10 +91,11 @@ impl<'a> Sink for Space<'a> {
     ghost takes = { λ s xs t. (t.out.ghost_name ≡ s.out.ghost_name) × Put s.at xs s.out.now t.out.now t.at };
 
     fn put_byte(&mut self, byte: u8) {
-        if self.at < self.out.len() {
-            self.out[self.at] = byte;
-        }
-        self.at = self.at.wrapping_add(1);
+        self.at = put_byte(self.out, self.at, byte);
+    }
+
+    fn put_number(&mut self, number: u64) {
+        self.at = put_digits(self.out, self.at, number);
     }
 
     ghost use Rattle.std.proofs.Common.{refl, ◌∙◌};
