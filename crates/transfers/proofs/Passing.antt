@@ -1,16 +1,22 @@
 -- Two lists of keys that ascend, passed together: a key is stored where it stands at the place that was passed to.
+use Rattle.std.specs.Prelude.{Some, None, not, nat_le, nat_lt, position}
+use Rattle.std.specs.List.{position_or_len}
 use mathlib.Core.Path.{◌≡◌, refl, sym, ap, subst, ◌∙◌}
 use mathlib.Core.Bool.{Bool, true, false, cond, ◌||◌}
 use mathlib.Core.List.{List, [], ◌∷◌, ◌++◌, map, append-nil}
 use mathlib.Core.Logic.{inl, inr}
-use Prim.Native.Nat.{ℕ, zero, suc, ◌+◌, ◌/◌, ◌≤◌, ◌<◌}
+use Prim.Native.Nat.{ℕ, zero, suc, ◌+◌, ◌-◌, ◌/◌, ◌≤◌, ◌<◌}
 use native.Mathlib.Numerals.{add-one}
 use native.Mathlib.Omega.{arith}
-use lib.ListN.{length, take, drop, get_or, set, length-map, drop_of_length-le}
-use lib.Seq.{take-suc, take-set-le, take-suc-set}
+use borrow.Author.Tests.{le-leb, lt-leb, ltb-false, eqb-true, eqb-false}
+use lib.Dec.{eqb}
+use lib.ListN.{length, take, drop, get_or, set, length-map, length-drop, drop_of_length-le}
+use Rattle.std.proofs.lemmas.List.{take_all}
+use lib.Seq.{get_or-drop, take-suc, take-set-le, take-suc-set}
 use Rattle.placement.specs.WellFormed.{Each}
 use Rattle.placement.proofs.Each.{each_append}
-use Rattle.placement.proofs.Tests.{by_order}
+use Rattle.placement.proofs.Tests.{by_order, by_test}
+use Rattle.placement.proofs.Conjunctions.{cond_true, cond_false}
 use Rattle.transfer_schedule.specs.Stored.{StoredCopy, is_stored}
 use Rattle.transfer_schedule.specs.Schedule.{lacking}
 use Rattle.transfer_schedule.specs.Words.{StandsBefore, InOrderBehind, InOrder}
@@ -92,11 +98,88 @@ module _ (old : List ℕ) (key at : ℕ) (passed : PassedTo old key at) where
   pub passed_end : length old ≤ at → is_stored (stored_in key) (map stored_in old) ≡ false
   passed_end end = from_place ∙ ap (is_stored (stored_in key)) (drop_of_length-le (map stored_in old) {i = at} (omega (arith, length-map old stored_in)))
 
--- One key more that is below.
-pub below_more : (key : ℕ) (keys : List ℕ) (i : ℕ) → i < length keys → Each (λ k. k < key) (take i keys) → get_or keys i 0 < key → Each (λ k. k < key) (take (i + 1) keys)
-below_more key keys i less below own =
-    subst (Each (λ k. k < key)) (sym (ap (λ (n : ℕ). take n keys) (add-one i) ∙ take-suc keys i 0 less))
-    (each_append (λ k. k < key) (take i keys) (get_or keys i 0 ∷ []) below (own, tt))
+-- Whether the key stands there says whether its copy is stored.
+pub passed_stands :
+    (old : List ℕ) (key at : ℕ) → PassedTo old key at → InOrder (map stored_in old) → at < length old
+    → eqb (get_or old at 0) key ≡ is_stored (stored_in key) (map stored_in old)
+passed_stands old key at passed ordered less =
+    by_test (eqb (get_or old at 0) key)
+    (λ e. e ∙ sym (passed_found old key at passed less (eqb-true _ _ e)))
+    (λ e. e ∙ sym (passed_other old key at passed ordered less (eqb-false _ _ e)))
+
+-- Keys are below where those in front and those behind them are.
+each_take : (P : ℕ → Type 0) (a n j : ℕ) (xs : List ℕ) → j ≡ a + n → Each P (take a xs) → Each P (take n (drop a xs)) → Each P (take j xs)
+each_take P zero n j xs e front behind =
+    let same : n ≡ j = omega (arith, e) in
+    subst (λ (k : ℕ). Each P (take k xs)) same behind
+each_take P (suc a) n zero xs e front behind = tt
+each_take P (suc a) n (suc j) [] e front behind = tt
+each_take P (suc a) n (suc j) (x ∷ xs) e front behind = (front.0, each_take P a n j xs (omega (arith, e)) front.1 behind)
+
+-- How many keys in front are below a key.
+abbrev below_front : ℕ → List ℕ → ℕ
+below_front key keys = position_or_len (λ k. nat_le key k) keys
+
+-- They are, and the next one is not.
+front_passed : (key : ℕ) (keys : List ℕ) → PassedTo keys key (below_front key keys)
+front_passed key [] = record { within = omega arith; below = tt; next = λ less. absurd (omega (arith, less)) }
+front_passed key (k ∷ keys) =
+    let later = front_passed key keys in
+    let more : suc (below_front key keys) ≡ 1 + below_front key keys = omega arith in
+    by_order k key
+    (λ low. subst (PassedTo (k ∷ keys) key) (more ∙ sym (ap (λ (b : Bool). cond (not b) (1 + below_front key keys) 0) (lt-leb key k low))) (record {
+      within = omega (arith, later.within);
+      below = (low, later.below);
+      next = λ less. later.next (omega (arith, less));
+    }))
+    (λ high. subst (PassedTo (k ∷ keys) key) (sym (ap (λ (b : Bool). cond (not b) (1 + below_front key keys) 0) (le-leb key k high))) (record {
+      within = omega arith;
+      below = tt;
+      next = λ less. high;
+    }))
+
+-- The place that is passed to, from a place on that is not behind it.
+passed_from : (old : List ℕ) (at key : ℕ) → at ≤ length old → Each (λ k. k < key) (take at old) → PassedTo old key (at + below_front key (drop at old))
+passed_from old at key within below =
+    let later = front_passed key (drop at old) in
+    let n = below_front key (drop at old) in
+    record {
+      within = omega (arith, later.within, length-drop at old);
+      below = each_take (λ k. k < key) at n (at + n) old refl below later.below;
+      next = λ less. subst (λ (k : ℕ). key ≤ k) (get_or-drop at old n 0) (later.next (omega (arith, less, length-drop at old)));
+    }
+
+-- All keys behind a place.
+all_behind : (old : List ℕ) (at : ℕ) → take (length old - at) (drop at old) ≡ drop at old
+all_behind old at = take_all (length old - at) (drop at old) (omega (arith, length-drop at old))
+
+-- It is the first place where a key is not below,
+pub passed_some :
+    (old : List ℕ) (at key n : ℕ) → at ≤ length old → Each (λ k. k < key) (take at old) → Some n ≡ position (λ k. nat_le key k) (take (length old - at) (drop at old))
+    → PassedTo old key (at + n)
+passed_some old at key n within below found =
+    by_test (nat_lt (below_front key (drop at old)) (length (drop at old)))
+    (λ e.
+    let same : Some n ≡ Some (below_front key (drop at old)) = found ∙ ap (position (λ k. nat_le key k)) (all_behind old at) ∙ cond_true _ _ _ e in
+    let is : n ≡ below_front key (drop at old) = cc in
+    subst (λ (k : ℕ). PassedTo old key (at + k)) (sym is) (passed_from old at key within below))
+    (λ e.
+    let same : Some n ≡ None = found ∙ ap (position (λ k. nat_le key k)) (all_behind old at) ∙ cond_false _ _ _ e in
+    absurd cc)
+
+-- or the end where all of them are.
+pub passed_none :
+    (old : List ℕ) (at key : ℕ) → at ≤ length old → Each (λ k. k < key) (take at old) → None ≡ position (λ k. nat_le key k) (take (length old - at) (drop at old))
+    → PassedTo old key (length old)
+passed_none old at key within below found =
+    let later = passed_from old at key within below in
+    by_test (nat_lt (below_front key (drop at old)) (length (drop at old)))
+    (λ e.
+    let same : None ≡ Some (below_front key (drop at old)) = found ∙ ap (position (λ k. nat_le key k)) (all_behind old at) ∙ cond_true _ _ _ e in
+    absurd cc)
+    (λ e.
+    let end : at + below_front key (drop at old) ≡ length old = omega (arith, later.within, length-drop at old, ltb-false _ _ e) in
+    subst (PassedTo old key) end later)
 
 -- Keys that are below one are below a higher one.
 pub below_higher : (low high : ℕ) (keys : List ℕ) → low < high → Each (λ k. k < low) keys → Each (λ k. k < high) keys
@@ -128,3 +211,22 @@ lacking_more old new keys i n less room e =
   where
     c : StoredCopy
     c = stored_in (get_or new i 0)
+
+-- A key that is stored in the old plan is passed,
+pub lacking_stored :
+    (old : List StoredCopy) (new keys : List ℕ) (i n : ℕ) → i < length new → is_stored (stored_in (get_or new i 0)) old ≡ true
+    → stored_at n keys ≡ lacking old (map stored_in (take i new)) → stored_at n keys ≡ lacking old (map stored_in (take (i + 1) new))
+lacking_stored old new keys i n less stored e =
+    let c = stored_in (get_or new i 0) in
+    e
+    ∙ sym (append-nil (lacking old (map stored_in (take i new))))
+    ∙ ap (λ (b : Bool). lacking old (map stored_in (take i new)) ++ cond b [] (c ∷ [])) (sym stored)
+    ∙ sym (ap (lacking old) (mapped_more stored_in 0 new i less) ∙ lacking_append old (map stored_in (take i new)) (c ∷ []))
+
+-- and another one is put behind those in front.
+pub lacking_put :
+    (old : List StoredCopy) (new keys : List ℕ) (i n : ℕ) → i < length new → n < length keys → is_stored (stored_in (get_or new i 0)) old ≡ false
+    → stored_at n keys ≡ lacking old (map stored_in (take i new))
+    → stored_at (n + 1) (set keys n (get_or new i 0)) ≡ lacking old (map stored_in (take (i + 1) new))
+lacking_put old new keys i n less room other e =
+    ap (λ (b : Bool). stored_at (n + cond b 0 1) (set keys n (get_or new i 0))) (sym other) ∙ lacking_more old new keys i n less room e

@@ -122,3 +122,19 @@ pub new_judged :
 new_judged vn rack keys disks n r old copies w e =
     subst (λ (v : Verdict Plan). StoredNew v old copies keys w) (sym r.same)
     (n, e ∙ ap (λ (new : List Disk). racks_judged old new (given (copies, n))) r.in_rack, r.room, r.stored)
+
+-- What is judged of two racks is so with another value behind it.
+abbrev pub carried : {A : Type 0} → Verdict A → Verdict (Unit {0}) → Verdict A
+carried following (given done) = following
+carried following (refused number second) = refused number second
+
+pub judged_with :
+    {A : Type 0} (old new : List Disk) (following : Verdict A) (v : Verdict (Unit {0})) → v ≡ racks_judged old new (given (tt {0}))
+    → carried following v ≡ racks_judged old new following
+judged_with old new following v e =
+    ap (carried following) e ∙ go (few_disks old && few_disks new) (same_numbers (first_line old) (first_line new))
+  where
+    go : (short same : Bool) → carried following (unless short 14 0 (unless same 15 0 (given (tt {0})))) ≡ unless short 14 0 (unless same 15 0 following)
+    go false same = refl
+    go true false = refl
+    go true true = refl

@@ -1,11 +1,12 @@
 -- Where the search for a film starts: copies are noted from the last to the first, and none before the start has the film.
 use mathlib.Core.Path.{◌≡◌, refl, sym, ap, subst, ◌∙◌}
-use mathlib.Core.List.{List, [], ◌∷◌}
-use Prim.Native.Nat.{ℕ, zero, suc, ◌+◌, ◌-◌, ◌%◌, ◌≤◌}
+use mathlib.Core.List.{List, [], ◌∷◌, map}
+use Prim.Native.Nat.{ℕ, zero, suc, ◌+◌, ◌-◌, ◌%◌, ◌≤◌, min}
 use native.Mathlib.Omega.{arith}
 use borrow.Author.Tests.{eqb-true, eqb-false, ne_eqb}
 use lib.Dec.{eqb}
-use lib.ListN.{length, get_or, take, drop, set, drop_of_length-le}
+use lib.ListN.{length, get_or, take, drop, set, length-drop, drop_of_length-le}
+use Rattle.std.proofs.lemmas.List.{take_all, drop-map}
 use lib.Seq.{take-nil, get_or-set_same, get_or-set_other}
 use Rattle.placement.proofs.Tests.{by_test, by_order}
 use Rattle.placement.proofs.Conjunctions.{cond_false}
@@ -18,6 +19,24 @@ source_behind film zero cs none = refl
 source_behind film (suc n) [] none = refl
 source_behind film (suc n) (c ∷ cs) none =
     cond_false (eqb film c.film) c.disk (source_of cs film) (ne_eqb film c.film (λ e. none.0 (sym e))) ∙ source_behind film n cs none.1
+
+-- The start is cut off at the end, behind which there is nothing.
+pub source_left :
+    (old : List ℕ) (film start m : ℕ) → m ≡ min start (length old) → NoneOf film (take start (map stored_in old))
+    → source_of (map stored_in old) film ≡ source_of (map stored_in (take (length old - m) (drop m old))) film
+source_left old film start m cut none =
+    source_behind film start (map stored_in old) none
+    ∙ ap (λ (cs : List StoredCopy). source_of cs film) (drop-map stored_in start old ∙ ap (map stored_in) left)
+  where
+    left : drop start old ≡ take (length old - m) (drop m old)
+    left =
+        by_order start (length old)
+        (λ less.
+        let same : start ≡ m = omega (arith, cut) in
+        ap (λ (k : ℕ). drop k old) same ∙ sym (take_all (length old - m) (drop m old) (omega (arith, length-drop m old))))
+        (λ all.
+        drop_of_length-le old {i = start} all
+        ∙ sym (take_all (length old - m) (drop m old) (omega (arith, length-drop m old)) ∙ drop_of_length-le old {i = m} (omega (arith, cut))))
 
 -- For the copies from place i on: none of them before the start has the film.
 abbrev pub StartsFrom : (starts : List ℕ) → (cs : List StoredCopy) → (i : ℕ) → Type 0

@@ -1,41 +1,40 @@
 // The new copies that the old plan hasn't on the same disk: both lists of keys ascend, so that one pass over both finds them.
-ghost use Rattle.std.specs.Prelude.{◌≡◌, cond, map, ◌≤◌, ◌<◌, length, take};
+ghost use Rattle.std.specs.Prelude.{◌≡◌, map, ◌≤◌, ◌<◌, length, take, nat_le, position};
 ghost use Rattle.placement.specs.WellFormed.{Each};
 ghost use Rattle.transfer_schedule.specs.Stored.{is_stored};
 ghost use Rattle.transfer_schedule.specs.Schedule.{lacking};
 ghost use Rattle.transfer_schedule.specs.Words.{InOrder};
 ghost use Rattle.transfers.specs.Keys.{stored_in, stored_at, PassedTo};
 
-// The first place from `at` on whose key is not below `key`, or the end: the keys before `i` are below it.
+// The first place whose key is not below `key`.
+fn first_not_below(keys: &[u64], key: u64) -> Option<usize>
+    ensures { result ≡ position (λ k. nat_le key k) keys.now }
+{
+    keys.iter().position(|k| key <= *k)
+}
+
+// The first place from `at` on whose key is not below `key`, or the end.
 fn pass_lower(old: &[u64], at: usize, key: u64) -> usize
     requires { (at ≤ length old.now) × Each (λ k. k < key) (take at old.now) }
     ensures { PassedTo old.now key result }
 {
-    let mut i = at;
-    while i < old.len() {
-        if key <= old[i] {
-            return i;
-        }
-        i += 1;
+    let behind = &old[at..];
+    match first_not_below(behind, key) {
+        Some(passed) => at + passed,
+        None => old.len(),
     }
-    i
 }
 
-// 0 where the key stands at the place that was passed to, else 1: then the old plan lacks its copy.
-fn lacks_at(old: &[u64], at: usize, key: u64) -> usize
+// Whether the old plan has the copy of a key: the key stands at the place that was passed to.
+fn stands_at(old: &[u64], at: usize, key: u64) -> bool
     requires { InOrder (map stored_in old.now) × PassedTo old.now key at }
-    ensures { result ≡ cond (is_stored (stored_in key) (map stored_in old.now)) 0 1 }
+    ensures { result ≡ is_stored (stored_in key) (map stored_in old.now) }
 {
-    if at < old.len() {
-        if old[at] == key {
-            return 0;
-        }
-    }
-    1
+    at < old.len() && old[at] == key
 }
 
-// Puts the keys of the new copies that the old plan lacks in front, and answers how many there are. Those before `i` are looked up, and the old
-// keys before `at` are below the next one. Each key is written behind those in front, and counts where it is lacking.
+// Puts the keys of the new copies that the old plan lacks in front, and answers how many there are. The old keys before `at` are below the next
+// one.
 pub(crate) fn put_lacking(old: &[u64], new: &[u64], keys: &mut [u64]) -> usize
     requires { InOrder (map stored_in old.now) × InOrder (map stored_in new.now) × (length new.now ≤ length keys.old) }
     ensures keys_after { stored_at result keys.new ≡ lacking (map stored_in old.now) (map stored_in new.now) }
@@ -43,13 +42,12 @@ pub(crate) fn put_lacking(old: &[u64], new: &[u64], keys: &mut [u64]) -> usize
 {
     let mut n = 0;
     let mut at = 0;
-    let mut i = 0;
-    while i < new.len() {
-        let key = new[i];
-        at = pass_lower(old, at, key);
-        keys[n] = key;
-        n += lacks_at(old, at, key);
-        i += 1;
+    for key in new {
+        at = pass_lower(old, at, *key);
+        if !stands_at(old, at, *key) {
+            keys[n] = *key;
+            n += 1;
+        }
     }
     n
 }

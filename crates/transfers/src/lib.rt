@@ -10,17 +10,15 @@ mod sources; // sources.rt: where a film is copied from
 mod stored; // stored.rt: stored copies as numbers
 mod texts; // texts.rt: the two texts
 
-ghost use Rattle.std.specs.Prelude.{◌≡◌, ◌≤◌, length, OnErr};
-ghost use Rattle.placement.specs.Tables.{written};
+ghost use Rattle.std.specs.Prelude.{◌≡◌, OnErr};
 ghost use Rattle.transfer_schedule.specs.Counts.{ends};
 ghost use Rattle.transfer_schedule.specs.Transfers.{texts_verdict};
 ghost use Rattle.transfer_schedule.specs.TransfersPromise.{TransfersPromise, CountsPromise, CountedPromise};
-ghost use Rattle.transfer_schedule.specs.Fits.{most_transfers};
 ghost use Rattle.transfers.specs.Keys.{WorkedOut};
 ghost use Rattle.transfers.specs.Answers.{transfer_numbers};
 
 pub use answer::InRounds;
-use count::{count_transfers, put_rows};
+use count::count_transfers;
 use refusal::Refusal;
 use schedule::transfers_between;
 use texts::read_texts;
@@ -28,68 +26,21 @@ use texts::read_texts;
 // The rows of a table of counts: one for the loader and each disk.
 const ROWS: usize = 9;
 
-// Works out the transfers of two texts, with space for the keys of their copies.
-fn work_out_with(
-    old: &[u8],
-    new: &[u8],
-    entries: &mut [u64],
-    oldkeys: &mut [u64],
-    newkeys: &mut [u64],
-) -> Result<InRounds, Refusal>
-    requires { (length entries.old ≡ most_transfers) × (length oldkeys.old ≡ most_transfers) × (length newkeys.old ≡ most_transfers) }
-    ensures { WorkedOut (texts_verdict old.now new.now) entries.new (transfer_numbers result) }
-{
-    let (old_copies, new_copies) = read_texts(old, new, oldkeys, newkeys)?;
-    Ok(transfers_between(&oldkeys[..old_copies], &newkeys[..new_copies], entries))
-}
+// The most transfers: one for each copy of a new plan.
+pub(crate) const MOST_TRANSFERS: usize = 256;
 
 // Works out the transfers of two texts: their entries stand in front, or the answer is a refusal of the texts.
-fn work_out(old: &[u8], new: &[u8], entries: &mut [u64]) -> Result<InRounds, Refusal>
-    requires { length entries.old ≡ most_transfers }
-    ensures { WorkedOut (texts_verdict old.now new.now) entries.new (transfer_numbers result) }
-{
-    let mut oldkeys = [0u64; 256];
-    let mut newkeys = [0u64; 256];
-    work_out_with(old, new, entries, &mut oldkeys, &mut newkeys)
-}
-
-// Stores entries in the front of a list: those before `i` are there.
-fn put_entries(entries: &[u64], list: &mut [u64])
-    requires { length entries.now ≤ length list.old }
-    ensures { list.new ≡ written entries.now list.old }
-{
-    let mut i = 0;
-    while i < entries.len() {
-        list[i] = entries[i];
-        i += 1;
-    }
-}
-
-// The transfers of two texts and their counts, with space for the entries.
-fn transfers_counted_with(
+fn work_out(
     old: &[u8],
     new: &[u8],
-    list: &mut [u64],
-    counts: &mut [[u32; 9]],
-    entries: &mut [u64],
+    entries: &mut [u64; MOST_TRANSFERS],
 ) -> Result<InRounds, Refusal>
-    requires { length entries.old ≡ most_transfers }
-    ensures promise { CountedPromise old.now new.now list.old list.new
-        counts.old counts.new (transfer_numbers result) }
-    ensures unchanged { OnErr result ((list.new ≡ list.old) × (counts.new ≡ counts.old)) }
+    ensures { WorkedOut (texts_verdict old.now new.now) entries.new (transfer_numbers result) }
 {
-    let made = work_out(old, new, entries)?;
-    let n = made.transfers as usize;
-    if list.len() < n {
-        return Err(Refusal::TablesTooShort);
-    }
-    if counts.len() < ROWS {
-        return Err(Refusal::TablesTooShort);
-    }
-    let listed = &entries[..n];
-    put_entries(listed, list);
-    put_rows(count_transfers([[0u32; 9]; 9], listed), counts);
-    Ok(made)
+    let mut oldkeys = [0u64; MOST_TRANSFERS];
+    let mut newkeys = [0u64; MOST_TRANSFERS];
+    let (old_copies, new_copies) = read_texts(old, new, &mut oldkeys, &mut newkeys)?;
+    Ok(transfers_between(&oldkeys[..old_copies], &newkeys[..new_copies], entries))
 }
 
 // Gives the transfers from an old plan's text to a new one's: the lent list gets an entry for each, and the lent table their counts by source and
@@ -104,8 +55,20 @@ pub fn transfers_counted(
         counts.old counts.new (transfer_numbers result) }
     ensures unchanged { OnErr result ((list.new ≡ list.old) × (counts.new ≡ counts.old)) }
 {
-    let mut entries = [0u64; 256];
-    transfers_counted_with(old, new, list, counts, &mut entries)
+    let mut entries = [0u64; MOST_TRANSFERS];
+    let made = work_out(old, new, &mut entries)?;
+    let n = made.transfers as usize;
+    if list.len() < n {
+        return Err(Refusal::TablesTooShort);
+    }
+    if counts.len() < ROWS {
+        return Err(Refusal::TablesTooShort);
+    }
+    let listed = &entries[..n];
+    list[..n].copy_from_slice(listed);
+    let table = count_transfers([[0; 9]; 9], listed);
+    counts[..ROWS].copy_from_slice(&table);
+    Ok(made)
 }
 
 // Gives the transfers from an old plan's text to a new one's: the lent list gets an entry for each. A refusal changes nothing.
@@ -121,7 +84,7 @@ pub fn transfers(old: &[u8], new: &[u8], list: &mut [u64]) -> Result<InRounds, R
 pub fn transfer_counts(old: &[u8], new: &[u8]) -> [[u32; 9]; 9]
     ensures { CountsPromise old.now new.now result }
 {
-    let mut list = [0u64; 256];
+    let mut list = [0u64; MOST_TRANSFERS];
     let mut counts = [[0u32; 9]; 9];
     let _ = transfers_counted(old, new, &mut list, &mut counts);
     counts

@@ -1,32 +1,75 @@
--- `transfers::transfers_between` meets its contract: its own space is as long as the steps ask, and no end is busy at first.
-use mathlib.Core.Path.{refl}
-use mathlib.Core.List.{[]}
-use Prim.Native.Nat.{ℕ, ◌+◌, ◌*◌}
+-- `transfers::transfers_between` meets its contract: the copies that the old ones lack are placed, and the largest round is the number of rounds.
+use mathlib.Core.Path.{◌≡◌, sym, ap, ap₂, subst, ◌∙◌}
+use mathlib.Core.List.{List, [], ◌∷◌, map}
+use Prim.Native.Nat.{ℕ, ◌≤◌}
 use native.Mathlib.Omega.{arith}
-use lib.ListN.{replicate, length-replicate, get_or-replicate}
-use Rattle.transfer_schedule.specs.Counts.{ends}
-use Rattle.transfers.specs.Keys.{row_length, busy_places, BusyTable, FullTable, start_places}
+use lib.ListN.{length, take, drop, length-map, length-append}
+use lib.Seq.{length-take-le, take_at}
+use Rattle.placement.specs.WellFormed.{Each}
+use Rattle.transfer_schedule.specs.Stored.{StoredCopy}
+use Rattle.transfer_schedule.specs.Schedule.{Transfer, place_all, rounds_of, schedule as schedule_of}
+use Rattle.transfer_schedule.specs.Fits.{CopyFits, TransferFits}
+use Rattle.transfer_schedule.specs.Transfers.{transfer_entry, schedule_size}
+use Rattle.transfer_schedule.proofs.Lacking.{lacking_each}
+use Rattle.transfer_schedule.proofs.Placing.{place_length}
+use Rattle.transfer_schedule.proofs.Scheduled.{schedule_fits}
+use Rattle.transfers.specs.Keys.{stored_in, stored_at}
 use Rattle.transfers.proofs.schedule.transfers_between.Goals as goal
 
--- Without transfers no end is busy.
-free_table : BusyTable (replicate busy_places 0) []
-free_table = record {
-  wide = length-replicate {A = ℕ} busy_places 0;
-  rows = λ end r few within. get_or-replicate {A = ℕ} busy_places (end * row_length + r) 0 0 (omega (arith, few, within));
-}
+-- No round is above 256.
+rounds_most : (ts : List Transfer) → Each TransferFits ts → rounds_of ts ≤ 256
+rounds_most [] fit = omega arith
+rounds_most (t ∷ ts) fit = omega (arith, fit.0.round, rounds_most ts fit.1)
 
--- And none is known to be.
-no_rounds : FullTable (replicate busy_places 0) (replicate ends 0) 0
-no_rounds = record {
-  wide = refl;
-  few = λ end few. omega (arith, get_or-replicate {A = ℕ} ends end 0 0 few);
-  ones = λ end few r less. absurd (omega (arith, less, get_or-replicate {A = ℕ} ends end 0 0 few));
-}
+pub overflow_cast-result-2 : goal.overflow_cast-result-2
+overflow_cast-result-2 c =
+    let old : List StoredCopy = map stored_in c.args.old.now in
+    let new : List StoredCopy = map stored_in c.args.new.now in
+    let fits : Each TransferFits (schedule_of old new) = schedule_fits old new c.requires.olds.0 c.requires.news.0 (omega (arith, length-map c.args.new.now stored_in, c.requires.news.2)) in
+    let n : ℕ = c.put_lacking-n.result in
+    let keys : List ℕ = c.put_lacking-n.new.keys in
+    let placed_is : place_all old [] (stored_at n keys) ≡ schedule_of old new = ap (place_all old []) c.put_lacking-n.ensures.keys_after in
+    let rounds_are : c.place_all-rounds.result ≡ rounds_of (schedule_of old new) = c.place_all-rounds.ensures.value ∙ ap rounds_of placed_is in
+    omega (
+      arith,
+      rounds_are,
+      rounds_most (schedule_of old new) fits,
+    )
 
-pub transfers_between_with-requires : goal.transfers_between_with-requires
-transfers_between_with-requires c =
+pub returns : goal.returns
+returns c =
+    let old : List StoredCopy = map stored_in c.args.old.now in
+    let new : List StoredCopy = map stored_in c.args.new.now in
+    let n : ℕ = c.put_lacking-n.result in
+    let keys : List ℕ = c.put_lacking-n.new.keys in
+    let room : n ≤ length keys = omega (arith, c.put_lacking-n.ensures.upper_bound, c.put_lacking-n.auto.keys, c.told-entries, c.requires.news.2) in
+    let fits : Each TransferFits (schedule_of old new) = schedule_fits old new c.requires.olds.0 c.requires.news.0 (omega (arith, length-map c.args.new.now stored_in, c.requires.news.2)) in
+    let placed_is : place_all old [] (stored_at n keys) ≡ schedule_of old new = ap (place_all old []) c.put_lacking-n.ensures.keys_after in
+    let front_long : length (take n keys) ≡ n = length-take-le n keys room in
+    let number : length (schedule_of old new) ≡ n = ap length (sym placed_is) ∙ (omega (arith, place_length old [] (stored_at n keys), length-map (take n keys) stored_in, front_long)) in
+    let rounds_are : c.place_all-rounds.result ≡ rounds_of (schedule_of old new) = c.place_all-rounds.ensures.value ∙ ap rounds_of placed_is in
+    let ts = schedule_of old new in
+    let entries = c.place_all-rounds.new.keys in
+    let rest = drop n keys in
+    let made : entries ≡ map transfer_entry ts = c.place_all-rounds.ensures.keys_after ∙ ap (map transfer_entry) placed_is in
+    let long : length entries ≡ length ts = ap length made ∙ length-map ts transfer_entry in
     record {
-      each = c.requires.each;
-      each_2 = c.requires.each_2;
-      entries_len = (c.requires.entries_len, length-replicate {A = ℕ} start_places 256, free_table, no_rounds);
+      told = ap₂ (λ (k r : ℕ). record { refusal = 0; second = 0; values = schedule_size k r }) (sym number) rounds_are;
+      front = take_at entries rest (length ts) long ∙ made;
+      fit = fits;
+      room = omega (arith, long, length-append entries rest);
+    }
+
+pub place_all-rounds-requires : goal.place_all-rounds-requires
+place_all-rounds-requires c =
+    let old : List StoredCopy = map stored_in c.args.old.now in
+    let new : List StoredCopy = map stored_in c.args.new.now in
+    let n : ℕ = c.put_lacking-n.result in
+    let keys : List ℕ = c.put_lacking-n.new.keys in
+    let room : n ≤ length keys = omega (arith, c.put_lacking-n.ensures.upper_bound, c.put_lacking-n.auto.keys, c.told-entries, c.requires.news.2) in
+    let front_long : length (take n keys) ≡ n = length-take-le n keys room in
+    let few : n ≤ 256 = omega (arith, c.put_lacking-n.ensures.upper_bound, c.requires.news.2) in
+    record {
+      each = (c.requires.olds.0, subst (Each CopyFits) (sym c.put_lacking-n.ensures.keys_after) (lacking_each old CopyFits new c.requires.news.0), omega (arith, front_long, few));
+      search_starts = c.note_starts.ensures;
     }

@@ -13,10 +13,9 @@ pub loop-i-preserved : goal.loop-i-preserved
 loop-i-preserved c =
     let keys = c.args.old.now in
     let i = c.loop-i.i - 1 in
-    let less : i < length keys = omega (arith, c.loop-i.invariant.0, c.loop-i-test.true) in
+    let less : i < length keys = omega (arith, c.loop-i.auto.i, c.loop-i-test.true) in
     let next : c.loop-i.i ≡ i + 1 = omega (arith, c.loop-i-test.true) in (
-      omega arith,
-      length-set c.loop-i.starts (get_or keys i 0 % start_places) i ∙ c.loop-i.invariant.1,
-      starts_more c.loop-i.starts (map stored_in keys) i (get_or keys i 0) (copy_here keys i less) c.loop-i.invariant.1
-          (subst (StartsFrom c.loop-i.starts (map stored_in keys)) next c.loop-i.invariant.2),
+      length-set c.loop-i.starts (get_or keys i 0 % start_places) i ∙ c.loop-i.invariant.0,
+      starts_more c.loop-i.starts (map stored_in keys) i (get_or keys i 0) (copy_here keys i less) c.loop-i.invariant.0
+          (subst (StartsFrom c.loop-i.starts (map stored_in keys)) next c.loop-i.invariant.1),
     )

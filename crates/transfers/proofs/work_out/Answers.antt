@@ -1,13 +1,14 @@
--- `transfers::work_out_with` meets its contract: the texts are refused, or the transfers are those between their stored copies.
+-- `transfers::work_out` meets its contract: the texts are refused, or the transfers are those between their stored copies.
 use mathlib.Core.Path.{ap, subst}
 use mathlib.Core.List.{List}
 use Prim.Native.Nat.{ℕ}
 use native.Mathlib.Omega.{arith}
+use lib.ListN.{length-replicate}
 use lib.Seq.{length-take-le}
 use Rattle.transfer_schedule.specs.Transfers.{texts_verdict}
 use Rattle.transfers.specs.Keys.{StoredTexts}
 use Rattle.transfers.proofs.TextsSteps.{BothAs, both_as, olds_fit, news_fit, olds_ordered, news_ordered}
-use Rattle.transfers.proofs.work_out_with.Goals as goal
+use Rattle.transfers.proofs.work_out.Goals as goal
 
 pub transfers_between-requires : goal.transfers_between-requires
 transfers_between-requires c =
@@ -21,7 +22,6 @@ transfers_between-requires c =
     let long = length-take-le m oldkeys r.old_room in
     let longer = length-take-le n newkeys r.new_room in
     record {
-      each = (olds_fit a.old.now a.new.now oldkeys newkeys m n r, olds_ordered a.old.now a.new.now oldkeys newkeys m n r, omega (arith, long, r.old_room, c.read_texts.auto.oldkeys, c.requires.1));
-      each_2 = (news_fit a.old.now a.new.now oldkeys newkeys m n r, news_ordered a.old.now a.new.now oldkeys newkeys m n r, omega (arith, longer, r.new_room, c.read_texts.auto.newkeys, c.requires.2, c.requires.0));
-      entries_len = c.requires.0;
+      olds = (olds_fit a.old.now a.new.now oldkeys newkeys m n r, olds_ordered a.old.now a.new.now oldkeys newkeys m n r, omega (arith, long, r.old_room, c.read_texts.auto.oldkeys, length-replicate {A = ℕ} 256 0));
+      news = (news_fit a.old.now a.new.now oldkeys newkeys m n r, news_ordered a.old.now a.new.now oldkeys newkeys m n r, omega (arith, longer, r.new_room, c.read_texts.auto.newkeys, length-replicate {A = ℕ} 256 0));
     }
