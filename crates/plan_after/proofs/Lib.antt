@@ -6,4 +6,3 @@ pub mod AfterPromise
 pub mod Steps
 pub mod LongRacks
 pub mod AfterExamplesHold
-pub mod PlanAnswers

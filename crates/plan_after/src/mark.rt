@@ -11,6 +11,14 @@ ghost use Rattle.plan_after.specs.Held.{HeldBefore};
 use placement::{copy_film, disk_slots, with_mark};
 use well_formed::absent;
 
+// An earlier plan: its disks, and the tables with its copies.
+#[derive(Clone, Copy)]
+pub(crate) struct HeldPlan<'a> {
+    pub(crate) rack: &'a [u64],
+    pub(crate) copies: &'a [u64],
+    pub(crate) counts: &'a [u32],
+}
+
 // An entry with the mark where its film is among the copies held, else as it was.
 fn marked_entry(entry: u64, held: &[u64]) -> u64
     ensures { result ≡ marked_entry (map unmarked (copies_in held.now)) «entry» }
@@ -21,43 +29,33 @@ fn marked_entry(entry: u64, held: &[u64]) -> u64
     with_mark(entry)
 }
 
-// Marks the places of one disk by the copies that it held: those before a place are marked.
+// Marks the places of one disk by the copies that it held.
 fn mark_places(places: &mut [u64], held: &[u64])
     ensures { places.new ≡ map (marked_entry (map unmarked (copies_in held.now))) places.old }
 {
-    let mut i = 0;
-    while i < places.len() {
-        places[i] = marked_entry(places[i], held);
-        i += 1;
+    for place in places.iter_mut() {
+        *place = marked_entry(*place, held);
     }
 }
 
-// Marks the places of the disks that held something before: the disks from one on give the whole.
-pub(crate) fn mark_disks(
-    rack: &[u64],
-    copies: &mut [u64],
-    heldrack: &[u64],
-    heldcopies: &[u64],
-    heldcounts: &[u32],
-)
+// Marks the places of the disks that held something before.
+pub(crate) fn mark_disks(rack: &[u64], copies: &mut [u64], held: &HeldPlan)
     requires rack_in_bounds { all_slots (disks_in rack.now) ≤ length copies.old }
-    requires held_before { HeldBefore (disks_in heldrack.now) heldcopies.now heldcounts.now }
+    requires held_before { HeldBefore (disks_in held.now.rack.now) held.now.copies.now held.now.counts.now }
     ensures { copies.new
         ≡ written (marked_places (disks_in rack.now) copies.old
-        (layout_of (marked_from (disks_in heldrack.now) heldcopies.now heldcounts.now))) copies.old }
+        (layout_of (marked_from (disks_in held.now.rack.now) held.now.copies.now held.now.counts.now))) copies.old }
 {
     let mut first = 0usize;
-    let mut heldfirst = 0usize;
-    let mut d = 0usize;
-    while d < rack.len() {
-        if heldrack.len() <= d {
+    let mut held_first = 0usize;
+    for (d, disk) in rack.iter().enumerate() {
+        if held.rack.len() <= d {
             return;
         }
-        let end = first + disk_slots(rack[d]).0 as usize;
-        let heldend = heldfirst + heldcounts[d] as usize;
-        mark_places(&mut copies[first..end], &heldcopies[heldfirst..heldend]);
+        let end = first + disk_slots(*disk).0 as usize;
+        let held_end = held_first + held.counts[d] as usize;
+        mark_places(&mut copies[first..end], &held.copies[held_first..held_end]);
         first = end;
-        heldfirst += disk_slots(heldrack[d]).0 as usize;
-        d += 1;
+        held_first += disk_slots(held.rack[d]).0 as usize;
     }
 }

@@ -40,61 +40,61 @@ roomy_at rack heldrack copies copies' heldcopies heldcounts d first heldfirst mo
   counted = count_place heldrack d heldmore _ refl heldcopies heldcounts held.room;
 }
 
-pub returns-then-heldrack-d : goal.returns-then-heldrack-d
-returns-then-heldrack-d c =
+pub returns-then-held-d : goal.returns-then-held-d
+returns-then-held-d c =
     let a = c.args in
-    let ended = no_disk a.heldrack.now c.loop-d.d c.if-heldrack-d.true in
-    marks_done (drop c.loop-d.d (disks_in a.rack.now)) c.loop-d.copies (held_from a.heldrack.now a.heldcopies.now a.heldcounts.now c.loop-d.heldfirst c.loop-d.d) c.loop-d.first
+    let ended = no_disk a.held.now.rack.now c.loop-d.d c.if-held-d.true in
+    marks_done (drop c.loop-d.d (disks_in a.rack.now)) c.loop-d.copies (held_from a.held.now.rack.now a.held.now.copies.now a.held.now.counts.now c.loop-d.held_first c.loop-d.d) c.loop-d.first
     (ap (λ (ds : List Disk). marked_places (drop c.loop-d.d (disks_in a.rack.now)) (drop c.loop-d.first c.loop-d.copies)
-    (layout_of (marked_from ds (drop c.loop-d.heldfirst a.heldcopies.now) (drop c.loop-d.d a.heldcounts.now)))) ended
+    (layout_of (marked_from ds (drop c.loop-d.held_first a.held.now.copies.now) (drop c.loop-d.d a.held.now.counts.now)))) ended
     ∙ none_held (drop c.loop-d.d (disks_in a.rack.now)) (drop c.loop-d.first c.loop-d.copies))
     ∙ c.loop-d.invariant.3
 
 pub overflow_add-end : goal.overflow_add-end
 overflow_add-end c =
-    let roomy = roomy_at c.args.rack.now c.args.heldrack.now c.args.copies.now c.loop-d.copies c.args.heldcopies.now c.args.heldcounts.now c.loop-d.d c.loop-d.first c.loop-d.heldfirst c.loop-d-test.true c.if-heldrack-d.false c.requires.rack_in_bounds c.requires.held_before c.loop-d.invariant.0 c.loop-d.invariant.1 c.loop-d.invariant.2 in omega (arith, roomy, c.disk_slots.ensures)
+    let roomy = roomy_at c.args.rack.now c.args.held.now.rack.now c.args.copies.now c.loop-d.copies c.args.held.now.copies.now c.args.held.now.counts.now c.loop-d.d c.loop-d.first c.loop-d.held_first c.loop-d-test.true c.if-held-d.false c.requires.rack_in_bounds c.requires.held_before c.loop-d.invariant.0 c.loop-d.invariant.1 c.loop-d.invariant.2 in omega (arith, roomy, c.disk_slots.ensures)
 
-pub overflow_add-heldend : goal.overflow_add-heldend
-overflow_add-heldend c =
-    let roomy = roomy_at c.args.rack.now c.args.heldrack.now c.args.copies.now c.loop-d.copies c.args.heldcopies.now c.args.heldcounts.now c.loop-d.d c.loop-d.first c.loop-d.heldfirst c.loop-d-test.true c.if-heldrack-d.false c.requires.rack_in_bounds c.requires.held_before c.loop-d.invariant.0 c.loop-d.invariant.1 c.loop-d.invariant.2 in omega (arith, roomy)
+pub overflow_add-held_end : goal.overflow_add-held_end
+overflow_add-held_end c =
+    let roomy = roomy_at c.args.rack.now c.args.held.now.rack.now c.args.copies.now c.loop-d.copies c.args.held.now.copies.now c.args.held.now.counts.now c.loop-d.d c.loop-d.first c.loop-d.held_first c.loop-d-test.true c.if-held-d.false c.requires.rack_in_bounds c.requires.held_before c.loop-d.invariant.0 c.loop-d.invariant.1 c.loop-d.invariant.2 in omega (arith, roomy)
 
 pub offset_bounds-copies-first : goal.offset_bounds-copies-first
 offset_bounds-copies-first c =
-    let roomy = roomy_at c.args.rack.now c.args.heldrack.now c.args.copies.now c.loop-d.copies c.args.heldcopies.now c.args.heldcounts.now c.loop-d.d c.loop-d.first c.loop-d.heldfirst c.loop-d-test.true c.if-heldrack-d.false c.requires.rack_in_bounds c.requires.held_before c.loop-d.invariant.0 c.loop-d.invariant.1 c.loop-d.invariant.2 in omega (arith, roomy, c.disk_slots.ensures)
+    let roomy = roomy_at c.args.rack.now c.args.held.now.rack.now c.args.copies.now c.loop-d.copies c.args.held.now.copies.now c.args.held.now.counts.now c.loop-d.d c.loop-d.first c.loop-d.held_first c.loop-d-test.true c.if-held-d.false c.requires.rack_in_bounds c.requires.held_before c.loop-d.invariant.0 c.loop-d.invariant.1 c.loop-d.invariant.2 in omega (arith, roomy, c.disk_slots.ensures)
 
 pub slice_bounds-mark_places-end : goal.slice_bounds-mark_places-end
 slice_bounds-mark_places-end c =
-    let roomy = roomy_at c.args.rack.now c.args.heldrack.now c.args.copies.now c.loop-d.copies c.args.heldcopies.now c.args.heldcounts.now c.loop-d.d c.loop-d.first c.loop-d.heldfirst c.loop-d-test.true c.if-heldrack-d.false c.requires.rack_in_bounds c.requires.held_before c.loop-d.invariant.0 c.loop-d.invariant.1 c.loop-d.invariant.2 in omega (arith, roomy, c.disk_slots.ensures)
+    let roomy = roomy_at c.args.rack.now c.args.held.now.rack.now c.args.copies.now c.loop-d.copies c.args.held.now.copies.now c.args.held.now.counts.now c.loop-d.d c.loop-d.first c.loop-d.held_first c.loop-d-test.true c.if-held-d.false c.requires.rack_in_bounds c.requires.held_before c.loop-d.invariant.0 c.loop-d.invariant.1 c.loop-d.invariant.2 in omega (arith, roomy, c.disk_slots.ensures)
 
-pub offset_bounds-heldcopies-heldfirst : goal.offset_bounds-heldcopies-heldfirst
-offset_bounds-heldcopies-heldfirst c =
-    let roomy = roomy_at c.args.rack.now c.args.heldrack.now c.args.copies.now c.loop-d.copies c.args.heldcopies.now c.args.heldcounts.now c.loop-d.d c.loop-d.first c.loop-d.heldfirst c.loop-d-test.true c.if-heldrack-d.false c.requires.rack_in_bounds c.requires.held_before c.loop-d.invariant.0 c.loop-d.invariant.1 c.loop-d.invariant.2 in omega (arith, roomy)
+pub offset_bounds-held-held_first : goal.offset_bounds-held-held_first
+offset_bounds-held-held_first c =
+    let roomy = roomy_at c.args.rack.now c.args.held.now.rack.now c.args.copies.now c.loop-d.copies c.args.held.now.copies.now c.args.held.now.counts.now c.loop-d.d c.loop-d.first c.loop-d.held_first c.loop-d-test.true c.if-held-d.false c.requires.rack_in_bounds c.requires.held_before c.loop-d.invariant.0 c.loop-d.invariant.1 c.loop-d.invariant.2 in omega (arith, roomy)
 
 pub slice_bounds-mark_places-end-in-loop-d : goal.slice_bounds-mark_places-end-in-loop-d
 slice_bounds-mark_places-end-in-loop-d c =
-    let roomy = roomy_at c.args.rack.now c.args.heldrack.now c.args.copies.now c.loop-d.copies c.args.heldcopies.now c.args.heldcounts.now c.loop-d.d c.loop-d.first c.loop-d.heldfirst c.loop-d-test.true c.if-heldrack-d.false c.requires.rack_in_bounds c.requires.held_before c.loop-d.invariant.0 c.loop-d.invariant.1 c.loop-d.invariant.2 in omega (arith, roomy)
+    let roomy = roomy_at c.args.rack.now c.args.held.now.rack.now c.args.copies.now c.loop-d.copies c.args.held.now.copies.now c.args.held.now.counts.now c.loop-d.d c.loop-d.first c.loop-d.held_first c.loop-d-test.true c.if-held-d.false c.requires.rack_in_bounds c.requires.held_before c.loop-d.invariant.0 c.loop-d.invariant.1 c.loop-d.invariant.2 in omega (arith, roomy)
 
-pub overflow_add-heldfirst : goal.overflow_add-heldfirst
-overflow_add-heldfirst c =
-    let roomy = roomy_at c.args.rack.now c.args.heldrack.now c.args.copies.now c.loop-d.copies c.args.heldcopies.now c.args.heldcounts.now c.loop-d.d c.loop-d.first c.loop-d.heldfirst c.loop-d-test.true c.if-heldrack-d.false c.requires.rack_in_bounds c.requires.held_before c.loop-d.invariant.0 c.loop-d.invariant.1 c.loop-d.invariant.2 in omega (arith, roomy, c.disk_slots-in-loop-d.ensures)
+pub overflow_add-held_first : goal.overflow_add-held_first
+overflow_add-held_first c =
+    let roomy = roomy_at c.args.rack.now c.args.held.now.rack.now c.args.copies.now c.loop-d.copies c.args.held.now.copies.now c.args.held.now.counts.now c.loop-d.d c.loop-d.first c.loop-d.held_first c.loop-d-test.true c.if-held-d.false c.requires.rack_in_bounds c.requires.held_before c.loop-d.invariant.0 c.loop-d.invariant.1 c.loop-d.invariant.2 in omega (arith, roomy, c.disk_slots-in-loop-d.ensures)
 
 pub loop-d-preserved : goal.loop-d-preserved
 loop-d-preserved c =
     let rack : List ℕ = c.args.rack.now in
-    let heldrack : List ℕ = c.args.heldrack.now in
-    let heldcopies : List ℕ = c.args.heldcopies.now in
-    let heldcounts : List ℕ = c.args.heldcounts.now in
+    let heldrack : List ℕ = c.args.held.now.rack.now in
+    let heldcopies : List ℕ = c.args.held.now.copies.now in
+    let heldcounts : List ℕ = c.args.held.now.counts.now in
     let d : ℕ = c.loop-d.d in
-    let heldmore : d < length heldrack = c.if-heldrack-d.false in
-    let roomy = roomy_at c.args.rack.now c.args.heldrack.now c.args.copies.now c.loop-d.copies c.args.heldcopies.now c.args.heldcounts.now c.loop-d.d c.loop-d.first c.loop-d.heldfirst c.loop-d-test.true c.if-heldrack-d.false c.requires.rack_in_bounds c.requires.held_before c.loop-d.invariant.0 c.loop-d.invariant.1 c.loop-d.invariant.2 in
+    let heldmore : d < length heldrack = c.if-held-d.false in
+    let roomy = roomy_at c.args.rack.now c.args.held.now.rack.now c.args.copies.now c.loop-d.copies c.args.held.now.copies.now c.args.held.now.counts.now c.loop-d.d c.loop-d.first c.loop-d.held_first c.loop-d-test.true c.if-held-d.false c.requires.rack_in_bounds c.requires.held_before c.loop-d.invariant.0 c.loop-d.invariant.1 c.loop-d.invariant.2 in
     let more = c.loop-d-test.true in
     let part = c.mark_places.new.places in
     let size = (c.loop-d.first + c.disk_slots.result.0) - c.loop-d.first in
     let wide : size ≡ (disk_in (get_or rack c.loop-d.d 0)).slots = omega (arith, c.disk_slots.ensures) in
     let ends : c.loop-d.first + c.disk_slots.result.0 ≡ c.loop-d.first + size = omega arith in
     let room : c.loop-d.first + c.disk_slots.result.0 ≤ length c.loop-d.copies = omega (arith, roomy, c.disk_slots.ensures) in
-    let h = map unmarked (copies_in (take (c.loop-d.heldfirst + get_or heldcounts c.loop-d.d 0 - c.loop-d.heldfirst) (drop c.loop-d.heldfirst heldcopies))) in
-    let heldnext = held_from heldrack heldcopies heldcounts (c.loop-d.heldfirst + c.disk_slots-in-loop-d.result.0) (c.loop-d.d + 1) in (
+    let h = map unmarked (copies_in (take (c.loop-d.held_first + get_or heldcounts c.loop-d.d 0 - c.loop-d.held_first) (drop c.loop-d.held_first heldcopies))) in
+    let heldnext = held_from heldrack heldcopies heldcounts (c.loop-d.held_first + c.disk_slots-in-loop-d.result.0) (c.loop-d.d + 1) in (
       omega (arith, c.loop-d.invariant.0, first_next rack c.loop-d.d more c.disk_slots.result.0 c.disk_slots.ensures),
       omega (arith, c.loop-d.invariant.1, first_next heldrack c.loop-d.d heldmore c.disk_slots-in-loop-d.result.0 c.disk_slots-in-loop-d.ensures),
       same_len_mid c.loop-d.first size c.loop-d.copies part c.mark_places.auto.places ∙ c.loop-d.invariant.2,
@@ -102,6 +102,6 @@ loop-d-preserved c =
           (c.loop-d.first + c.disk_slots.result.0) wide ends room c.mark_places.ensures
           ∙ ap₂ (λ (ds : List Disk) (held : List (List Item)). marks_on ds c.loop-d.copies held c.loop-d.first) (sym (disks_next rack c.loop-d.d more))
           (sym (ap layout_of (copies_next heldrack c.loop-d.d heldmore c.disk_slots-in-loop-d.result.0 c.disk_slots-in-loop-d.ensures heldcopies heldcounts
-          roomy.counted c.loop-d.heldfirst)))
+          roomy.counted c.loop-d.held_first)))
           ∙ c.loop-d.invariant.3,
     )

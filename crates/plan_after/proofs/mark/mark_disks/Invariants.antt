@@ -1,7 +1,7 @@
 -- `plan_after::mark_disks` meets its contract. The invariant: what marking from disk `d` on leaves is what marking all disks leaves.
 use mathlib.Core.Path.{◌≡◌}
 use mathlib.Core.List.{List}
-use Prim.Native.Nat.{ℕ, ◌-◌}
+use Prim.Native.Nat.{ℕ}
 use lib.ListN.{length, drop}
 use Rattle.placement.specs.Items.{Item}
 use Rattle.placement.specs.Copies.{layout_of}
@@ -19,10 +19,7 @@ held_from rack copies counts first d = layout_of (marked_from (drop d (disks_in 
 
 abbrev pub invariant-loop-d : goal.invariant-loop-d
 invariant-loop-d l = (l.first ≡ offset (disks_in l.rack) l.d)
-    × (l.heldfirst ≡ offset (disks_in l.heldrack) l.d)
+    × (l.held_first ≡ offset (disks_in l.held.rack.now) l.d)
     × (length l.copies ≡ length l.initial.copies)
-    × (marks_on (drop l.d (disks_in l.rack)) l.copies (held_from l.heldrack l.heldcopies l.heldcounts l.heldfirst l.d) l.first
-    ≡ written (marked_places (disks_in l.rack) l.initial.copies (layout_of (marked_from (disks_in l.heldrack) l.heldcopies l.heldcounts))) l.initial.copies)
-
-abbrev pub decreases-loop-d : goal.decreases-loop-d
-decreases-loop-d l = length l.rack - l.d
+    × (marks_on (drop l.d (disks_in l.rack)) l.copies (held_from l.held.rack.now l.held.copies.now l.held.counts.now l.held_first l.d) l.first
+    ≡ written (marked_places (disks_in l.rack) l.initial.copies (layout_of (marked_from (disks_in l.held.rack.now) l.held.copies.now l.held.counts.now))) l.initial.copies)
