@@ -1,9 +1,22 @@
-// The cases: racks of equal and of unequal disks and lists of ten families, and faults for those that are to be refused.
+// The cases: racks of equal and of unequal disks and lists of ten families, and faults for those
+// that are to be refused.
 use crate::draw::{draw, from_to};
+use crate::fault::Fault;
 
-// A case: how many disks, their slots and load, and up to how many times as large a disk can be; how many records, of which
-// demands, how many bytes behind them, and which table is lent too short.
-#[derive(Clone, Copy)]
+// One of the three tables that are lent.
+#[derive(Clone, Copy, Debug, PartialEq, Eq)]
+pub(crate) enum Table {
+    Copies,
+    Counts,
+    Left,
+}
+
+// A case: how many disks, their slots and load, and up to how many times as large a disk can be; how
+// many records, of which demands; how many times load and demands are taken, so that windows meet
+// the load exactly; and one more than how many times the load can be added to a demand, so that what
+// is left of a film equals other demands. Then its faults: how many bytes stand behind the records,
+// which table is lent too short, and the one or two faults that it has in all.
+#[derive(Clone, Copy, Debug)]
 pub(crate) struct Case {
     pub(crate) number: u64,
     pub(crate) disks: u32,
@@ -13,174 +26,164 @@ pub(crate) struct Case {
     pub(crate) records: u32,
     pub(crate) low: u32,
     pub(crate) high: u32,
-    pub(crate) odd_bytes: u32,
-    pub(crate) short: u32,
+    pub(crate) factor: u32,
+    pub(crate) folds: u32,
+    pub(crate) odd_bytes: usize,
+    pub(crate) short: Option<Table>,
+    pub(crate) first_fault: Option<Fault>,
+    pub(crate) second_fault: Option<Fault>,
 }
 
-// A case of so many records at most, with demands of low to high, and no fault.
-fn plain(
-    number: u64,
-    most_disks: u32,
-    most_slots: u32,
-    most_load: u32,
-    most_records: u32,
-    low: u32,
-    high: u32,
-) -> Case {
+// Of each family the most disks, slots, load and records, and the lowest and the highest demand.
+const FAMILIES: [[u32; 6]; 10] = [
+    [4, 4, 12, 8, 0, 9],
+    [6, 5, 10, 16, 1, 3],
+    [5, 4, 9, 9, 1, 3],
+    [4, 5, 6, 12, 1, 2],
+    [8, 32, 40, 2, 0, 60],
+    [16, 12, 200, 129, 0, 99],
+    [8, 4, 1, 12, 0, 4],
+    [64, 32, 65_535, 40, 0, 1_000_000],
+    [4, 4, 12, 8, 0, 9],
+    [4, 4, 12, 8, 0, 9],
+];
+
+// The family of a case: its number's last digit.
+fn family(number: u64) -> u64 {
+    number % 10
+}
+
+// A case of equal disks as the table of families has it.
+fn plain(number: u64) -> Case {
+    let [disks, slots, load, records, low, high] = FAMILIES[(number % 10) as usize];
     Case {
         number,
-        disks: from_to(number, 0, 1, most_disks),
-        slots: from_to(number, 1, 1, most_slots),
-        load: from_to(number, 2, 1, most_load),
+        disks: from_to(number, 0, 1, disks),
+        slots: from_to(number, 1, 1, slots),
+        load: from_to(number, 2, 1, load),
         sizes: 1,
-        records: from_to(number, 3, 0, most_records),
+        records: from_to(number, 3, 0, records),
         low,
         high,
+        factor: 1,
+        folds: 1,
         odd_bytes: 0,
-        short: 0,
+        short: None,
+        first_fault: None,
+        second_fault: None,
     }
 }
 
-// Demands and load doubled up to two times, so that windows meet the load exactly.
-fn exact(mut c: Case) -> Case {
-    c.load = twice(c.load, doubled(c.number));
-    c
-}
-
-// n, doubled so many times, up to two.
-pub(crate) fn twice(n: u32, times: u32) -> u32 {
-    match times {
-        0 => n,
-        1 => n << 1,
-        _ => n << 2,
+// Load and demands taken once, twice or four times.
+fn exact(case: Case) -> Case {
+    let factor = match draw(case.number, 4, 3) {
+        0 => 1,
+        1 => 2,
+        _ => 4,
+    };
+    Case {
+        load: case.load.wrapping_mul(factor),
+        factor,
+        ..case
     }
 }
 
 // Many films.
-fn many(mut c: Case) -> Case {
-    c.records = from_to(c.number, 3, 30, 129);
-    c
+fn many(case: Case) -> Case {
+    Case {
+        records: from_to(case.number, 3, 30, 129),
+        ..case
+    }
 }
 
-// The largest rack, now and then with as many records as a list may have, or demands as large as they may be.
-fn largest(mut c: Case) -> Case {
-    c.disks = 64;
-    c.slots = 32;
-    if draw(c.number, 5, 3) == 0 {
-        c.low = 1_000_000;
+// The largest rack, now and then with as many records as a list may have, or demands as large as
+// they may be.
+fn largest(mut case: Case) -> Case {
+    case.disks = 64;
+    case.slots = 32;
+    if draw(case.number, 5, 3) == 0 {
+        case.low = 1_000_000;
     }
-    if c.number % 2_500 == 7 {
-        c.records = 1_024;
-        c.low = 0;
+    if case.number % 2_500 == 7 {
+        case.records = 1_024;
+        case.low = 0;
     }
-    c
+    case
 }
 
-// Up to 64 disks in one of two cases, but not in family 0.
-fn crowded(mut c: Case) -> Case {
-    if (c.number % 10 != 0) & (draw(c.number, 19, 2) == 0) {
-        c.disks = from_to(c.number, 0, 5, 64);
+// Up to 64 disks in one of two cases.
+fn crowded(mut case: Case) -> Case {
+    if draw(case.number, 19, 2) == 0 {
+        case.disks = from_to(case.number, 0, 5, 64);
     }
-    c
+    case
 }
 
-// A case of the family that its number's last digit names.
+// A case of equal disks of its family.
 fn of_family(number: u64) -> Case {
-    match number % 10 {
-        1 => plain(number, 6, 5, 10, 16, 1, 3),
-        2 => plain(number, 5, 4, 9, 9, 1, 3),
-        3 => exact(plain(number, 4, 5, 6, 12, 1, 2)),
-        4 => plain(number, 8, 32, 40, 2, 0, 60),
-        5 => many(plain(number, 16, 12, 200, 129, 0, 99)),
-        6 => plain(number, 8, 4, 1, 12, 0, 4),
-        7 => largest(plain(number, 64, 32, 65_535, 40, 0, 1_000_000)),
-        _ => crowded(plain(number, 4, 4, 12, 8, 0, 9)),
+    let case = plain(number);
+    match family(number) {
+        2 => Case { folds: 3, ..case },
+        3 => exact(case),
+        5 => many(case),
+        7 => largest(case),
+        8 | 9 => crowded(case),
+        _ => case,
     }
-}
-
-// How many times a number fits in a limit, or 0 for 0.
-fn fits(n: u32, limit: u32) -> u32 {
-    if n == 0 { 0 } else { limit / n }
 }
 
 // Smaller slots and load for the largest racks, so that their disks can differ.
-fn smaller(mut c: Case) -> Case {
-    if c.number % 10 == 7 {
-        c.slots = from_to(c.number, 1, 1, 16);
-        c.load = from_to(c.number, 2, 1, 16_383);
+fn smaller(mut case: Case) -> Case {
+    if family(case.number) == 7 {
+        case.slots = from_to(case.number, 1, 1, 16);
+        case.load = from_to(case.number, 2, 1, 16_383);
     }
-    c
+    case
 }
 
 // Three of four cases have disks of unequal sizes, as far as the ranges of slots and load go.
-fn unequal(c: Case) -> Case {
-    if draw(c.number, 17, 4) == 0 {
-        return c;
+fn unequal(case: Case) -> Case {
+    if draw(case.number, 17, 4) == 0 {
+        return case;
     }
-    let mut u = smaller(c);
-    let room = lesser(fits(u.slots, 32), fits(u.load, 65_535));
-    u.sizes = lesser(from_to(c.number, 18, 2, 8), room);
-    u
+    let mut unequal = smaller(case);
+    let by_slots = 32u32.checked_div(unequal.slots).unwrap_or(0);
+    let by_load = 65_535u32.checked_div(unequal.load).unwrap_or(0);
+    unequal.sizes = from_to(case.number, 18, 2, 8).min(by_slots).min(by_load);
+    unequal
 }
 
-// The lesser of two numbers.
-fn lesser(a: u32, b: u32) -> u32 {
-    if a < b { a } else { b }
-}
-
-// How many times the demands and the load of a case are doubled.
-pub(crate) fn doubled(number: u64) -> u32 {
-    if number % 10 == 3 {
-        draw(number, 4, 3)
-    } else {
-        0
+// The table that is lent too short.
+fn short_table(number: u64) -> Table {
+    match from_to(number, 11, 1, 3) {
+        1 => Table::Copies,
+        2 => Table::Counts,
+        _ => Table::Left,
     }
 }
 
-// One more than how many times the load can be added to a demand, so that what is left of a film equals other demands.
-pub(crate) fn folds(number: u64) -> u32 {
-    if number % 10 == 2 { 3 } else { 1 }
-}
-
-// How many faults there are, which is also the number of none.
-pub(crate) const FAULTS: u32 = 21;
-
-// The first fault of a case of families 8 and 9, or none.
-pub(crate) fn first_fault(number: u64) -> u32 {
-    if number % 10 < 8 {
-        FAULTS
-    } else {
-        draw(number, 6, FAULTS)
-    }
-}
-
-// The second fault of a case of family 9, or none.
-pub(crate) fn second_fault(number: u64) -> u32 {
-    if number % 10 < 9 {
-        FAULTS
-    } else {
-        draw(number, 7, FAULTS)
-    }
-}
-
-// The case with a fault of the number of disks, of the list's length or of the tables; 2 to 5 and 15 to 19 are faults of a disk,
-// 10 to 14 and 20 of a record.
-fn with_fault(mut c: Case, fault: u32) -> Case {
+// The case with a fault of the number of disks, of the list's length or of the tables, if this is
+// one.
+fn with_fault(mut case: Case, fault: Option<Fault>) -> Case {
     match fault {
-        0 => c.disks = 0,
-        1 => c.disks = 65,
-        6 => c.odd_bytes = from_to(c.number, 9, 1, 7),
-        7 => c.records = from_to(c.number, 10, 1_025, 1_029),
-        8 | 9 => c.short = from_to(c.number, 11, 1, 3),
+        Some(Fault::NoDisks) => case.disks = 0,
+        Some(Fault::TooManyDisks) => case.disks = 65,
+        Some(Fault::OddBytes) => case.odd_bytes = from_to(case.number, 9, 1, 7) as usize,
+        Some(Fault::TooManyRecords) => case.records = from_to(case.number, 10, 1_025, 1_029),
+        Some(Fault::ShortTable) => case.short = Some(short_table(case.number)),
         _ => {}
     }
-    c
+    case
 }
 
-// The case of a number.
+// The case of a number. Families 8 and 9 have a fault, family 9 a second one.
 pub(crate) fn case_of(number: u64) -> Case {
-    with_fault(
-        with_fault(unequal(of_family(number)), first_fault(number)),
-        second_fault(number),
-    )
+    let mut case = unequal(of_family(number));
+    if family(number) >= 8 {
+        case.first_fault = Fault::drawn(number, 6);
+    }
+    if family(number) == 9 {
+        case.second_fault = Fault::drawn(number, 7);
+    }
+    with_fault(with_fault(case, case.first_fault), case.second_fault)
 }

@@ -1,26 +1,29 @@
-// Runs the proved planner and the plain planner on many racks and lists, compares every place of every table and every number
-// of the answers, and prints how many cases ran, how many were refused, how many were planned for unequal disks, what was served
-// and left in all, how many copies and left films that makes, and how many cases differ.
+// Runs the proved planner and the plain planner on many racks and lists, compares every place of
+// every table and every number of the answers, and prints the tally.
 #![tactic(auto)]
 
-mod bytes;
 mod case;
 mod compare;
 mod draw;
+mod fault;
 mod lend;
+mod list;
 mod plain;
 mod rack;
+mod tables;
 
 use case::case_of;
 use compare::{Compared, compare};
-use std::io;
+use std::alloc::{AllocError, Global};
+use std::{fmt, io};
 
 // How many cases are run.
 const CASES: u64 = 25_000;
 
-// How many cases ran, how many were refused, how many were planned for unequal disks, what was served and left in all, how many
-// copies stand on all disks, how many films are left, and how many cases differ.
-#[derive(Clone, Copy)]
+// How many cases ran, how many were refused, how many were planned for unequal disks, what was
+// served and left in all, how many copies stand on all disks, how many films are left, and how many
+// cases differ.
+#[derive(Clone, Copy, Debug, Default)]
 struct Tally {
     cases: u64,
     refused: u64,
@@ -32,57 +35,49 @@ struct Tally {
     differ: u64,
 }
 
-// A count, and one more if what is counted is so.
-fn one_more(n: u64, so: bool) -> u64 {
-    if so {
-        std::num::wrapping_add_u64(n, 1)
-    } else {
-        n
+impl Tally {
+    // Counts a case more.
+    fn count(&mut self, compared: &Compared) {
+        self.cases = self.cases.wrapping_add(1);
+        self.differ = self.differ.wrapping_add(u64::from(!compared.is_same));
+        match compared.sums {
+            Ok(sums) => {
+                self.mixed = self.mixed.wrapping_add(u64::from(compared.is_mixed));
+                self.served = self.served.wrapping_add(sums.served);
+                self.unserved = self.unserved.wrapping_add(sums.unserved);
+                self.copies = self.copies.wrapping_add(compared.copies);
+                self.left_films = self.left_films.wrapping_add(sums.left);
+            }
+            Err(_) => self.refused = self.refused.wrapping_add(1),
+        }
     }
 }
 
-// The tally with a case more.
-fn counted(t: Tally, c: Compared) -> Tally {
-    let plain = c.plain;
-    Tally {
-        cases: one_more(t.cases, true),
-        refused: one_more(t.refused, plain.refusal != 0),
-        mixed: one_more(t.mixed, c.mixed),
-        served: std::num::wrapping_add_u64(t.served, plain.served),
-        unserved: std::num::wrapping_add_u64(t.unserved, plain.unserved),
-        copies: std::num::wrapping_add_u64(t.copies, c.copies),
-        left_films: std::num::wrapping_add_u64(t.left_films, plain.left),
-        differ: one_more(t.differ, !c.same),
+impl fmt::Display for Tally {
+    fn fmt<W: fmt::Write>(&self, f: &mut fmt::Formatter<W>) -> fmt::Result {
+        let tally = *self;
+        writeln!(f, "cases {}", tally.cases)?;
+        writeln!(f, "refused {}", tally.refused)?;
+        writeln!(f, "mixed {}", tally.mixed)?;
+        writeln!(f, "served {}", tally.served)?;
+        writeln!(f, "left {}", tally.unserved)?;
+        writeln!(f, "copies {}", tally.copies)?;
+        writeln!(f, "left films {}", tally.left_films)?;
+        write!(f, "differ {}", tally.differ)
     }
 }
 
 // Runs so many cases.
-fn run_cases(cases: u64) -> Tally {
-    let mut t = Tally {
-        cases: 0,
-        refused: 0,
-        mixed: 0,
-        served: 0,
-        unserved: 0,
-        copies: 0,
-        left_films: 0,
-        differ: 0,
-    };
+fn run_cases(alloc: Global, cases: u64) -> Result<Tally, AllocError> {
+    let mut tally = Tally::default();
     for number in 0..cases {
-        t = counted(t, compare(case_of(number)));
+        tally.count(&compare(alloc, &case_of(number))?);
     }
-    t
+    Ok(tally)
 }
 
 // Runs all cases and writes the tally.
 fn main(rt: HostRuntime) -> io::Result<()> {
-    let t = run_cases(CASES);
-    println!(rt; "cases {}", t.cases)?;
-    println!(rt; "refused {}", t.refused)?;
-    println!(rt; "mixed {}", t.mixed)?;
-    println!(rt; "served {}", t.served)?;
-    println!(rt; "left {}", t.unserved)?;
-    println!(rt; "copies {}", t.copies)?;
-    println!(rt; "left films {}", t.left_films)?;
-    println!(rt; "differ {}", t.differ)
+    let tally = run_cases(rt.alloc(), CASES)?;
+    println!(rt; "{tally}")
 }

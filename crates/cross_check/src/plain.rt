@@ -1,90 +1,142 @@
-// A plain planner, written from the words of document 01 and of 02's requests P1 and P2 alone, that the proved planner is
-// compared with. Its records stay in the order of the file. For each number of slots it goes through all disks and fills those
-// that have as many. Each disk looks for the order of its list anew, each film of demand 0 for its slot, and each sum is made
-// anew. All that it holds stands in one memory of numbers: the records, the list of a disk, and the three tables. A record, a copy
-// or a left film is an entry: the film, and from bit 32 on its demand, viewers or amount. A disk too: its slots, and its load.
-// Where a record's film is on the disks, and nothing of it is left, its place is 0.
-mod disk;
-pub(crate) mod memory;
-pub(crate) mod ranks;
+// A plain planner, written from the words of document 01 and of 02's requests P1 and P2 alone, that
+// the proved planner is compared with. Its records stay in the order of the file. For each number of
+// slots it goes through all disks and fills those that have as many. Each disk makes its list anew,
+// each film of demand 0 looks for its slot anew, and each sum is made anew. A record whose film is on
+// the disks, and of which nothing is left, leaves the records.
+mod filling;
 mod records;
 mod refusals;
 mod shelf;
 
-use disk::{fill_disks, first_place};
-use memory::{COPIES, COUNTS, LEFT, plus};
-use ranks::{Term, put_in_order, total};
-use records::read_records;
-use refusals::call_refusal;
+use filling::{FilledDisk, fill_disks};
+use records::records_of;
+use refusals::judge;
 use shelf::shelve_films;
+use std::alloc::{AllocError, Global};
+
+// A disk of a rack.
+#[derive(Clone, Copy, Debug, PartialEq, Eq)]
+pub(crate) struct Disk {
+    pub(crate) slots: u32,
+    pub(crate) load: u32,
+}
+
+// A record, a copy or a left film: the film, and how many viewers want it, get it or are left.
+#[derive(Clone, Copy, Debug, PartialEq, Eq)]
+pub(crate) struct Entry {
+    pub(crate) film: u32,
+    pub(crate) viewers: u32,
+}
+
+// What stands in a place of a table where there is no copy or left film.
+const EMPTY: Entry = Entry {
+    film: 0,
+    viewers: 0,
+};
 
 // How many places of each table are lent.
-#[derive(Clone, Copy)]
-pub(crate) struct Call {
+#[derive(Clone, Copy, Debug)]
+pub(crate) struct Lengths {
     pub(crate) copies: usize,
     pub(crate) counts: usize,
     pub(crate) left: usize,
 }
 
-// What planning answers: the refusal's number and second number, or 0, 0 and what the plan serves and leaves.
+// What is asked of a planner.
 #[derive(Clone, Copy)]
-pub(crate) struct Outcome {
-    pub(crate) refusal: u32,
-    pub(crate) second: u64,
+pub(crate) struct Call<'a> {
+    pub(crate) rack: &'a [Disk],
+    pub(crate) list: &'a [u8],
+    pub(crate) lent: Lengths,
+}
+
+// A refusal's number and second number, as the documents have them. They are numbers on purpose:
+// that the library's refusals have these is part of what is compared.
+#[derive(Clone, Copy, Debug, PartialEq, Eq)]
+pub(crate) struct Refused(pub(crate) u32, pub(crate) u64);
+
+// What a plan serves and leaves, and how many films it leaves.
+#[derive(Clone, Copy, Debug, PartialEq, Eq)]
+pub(crate) struct Sums {
     pub(crate) served: u64,
     pub(crate) unserved: u64,
     pub(crate) left: u64,
 }
 
-// A refusal, zero for the rest.
-pub(crate) fn refused(refusal: u32, second: u64) -> Outcome {
-    Outcome {
-        refusal,
-        second,
-        served: 0,
-        unserved: 0,
-        left: 0,
+// A plan: its sums, and what it writes into the first places of each table.
+#[derive(Debug, Drop)]
+pub(crate) struct Planned {
+    pub(crate) sums: Sums,
+    pub(crate) copies: Vec<Entry>,
+    pub(crate) counts: Vec<u32>,
+    pub(crate) left: Vec<Entry>,
+}
+
+// The sum of a number of each item.
+pub(crate) fn total<T, F: Fn(&T) -> u32>(items: &[T], number: F) -> u64
+    requires { F.IsAlwaysCallable number }
+{
+    let mut sum = 0u64;
+    for item in items {
+        sum = sum.wrapping_add(u64::from(number(item)));
+    }
+    sum
+}
+
+// How many slots a rack has.
+pub(crate) fn all_slots(rack: &[Disk]) -> usize {
+    total(rack, |disk| disk.slots) as usize
+}
+
+// Plans a call, or refuses it.
+pub(crate) fn plan(alloc: Global, call: &Call) -> Result<Result<Planned, Refused>, AllocError> {
+    let records = records_of(alloc, call.list)?;
+    match judge(call, &records) {
+        Ok(()) => Ok(Ok(plan_records(alloc, call.rack, records)?)),
+        Err(refused) => Ok(Err(refused)),
     }
 }
 
-// Plans the list for the disks, or refuses it.
-pub(crate) fn plan(c: Call, rack: &[u64], list: &[u8], m: &mut [u64]) -> Outcome {
-    let fault = call_refusal(c, rack, list.len());
-    if fault.refusal > 0 {
-        return fault;
-    }
-    plan_list(rack, list, m)
+// Plans records that are not refused.
+fn plan_records(
+    alloc: Global,
+    rack: &[Disk],
+    mut records: Vec<Entry>,
+) -> Result<Planned, AllocError> {
+    let left_places = records.len();
+    let mut disks = fill_disks(alloc, rack, &mut records)?;
+    shelve_films(alloc, &mut disks, &mut records)?;
+    records.sort_unstable_by_key(|record| record.film);
+    let copies = copy_table(alloc, &disks)?;
+    let sums = Sums {
+        served: total(&copies, |copy| copy.viewers),
+        unserved: total(&records, |record| record.viewers),
+        left: records.len() as u64,
+    };
+    records.resize(left_places, EMPTY)?;
+    Ok(Planned {
+        sums,
+        copies,
+        counts: count_table(alloc, &disks)?,
+        left: records,
+    })
 }
 
-// Plans the list, or refuses a record of it.
-fn plan_list(rack: &[u64], list: &[u8], m: &mut [u64]) -> Outcome {
-    let n = list.len() / 8;
-    let fault = read_records(list, n, m);
-    if fault.refusal > 0 {
-        return fault;
-    }
-    planned(rack, n, m)
+// How many copies each disk has.
+fn count_table(alloc: Global, disks: &[FilledDisk]) -> Result<Vec<u32>, AllocError> {
+    disks
+        .iter()
+        .map(|filled| u32::try_from(filled.copies.len()).unwrap_or(u32::MAX))
+        .collect(alloc)
 }
 
-// Plans n records that are not refused.
-fn planned(rack: &[u64], n: usize, m: &mut [u64]) -> Outcome {
-    fill_disks(rack, n, m);
-    shelve_films(rack, n, m);
-    put_in_order(m, n, true, LEFT);
-    let end = first_place(rack, rack.len());
-    Outcome {
-        refusal: 0,
-        second: 0,
-        served: total(m, COPIES, end, Term::Demand),
-        unserved: total(m, 0, n, Term::Demand),
-        left: total(m, 0, n, Term::Listed { by_film: true }),
+// The copies disk by disk, with empty places for the slots that are free.
+fn copy_table(alloc: Global, disks: &[FilledDisk]) -> Result<Vec<Entry>, AllocError> {
+    let mut table = Vec::new(alloc);
+    for filled in disks {
+        let end = table.len().saturating_add(filled.disk.slots as usize);
+        table.extend_from_slice(&filled.copies)?;
+        table.resize(end, EMPTY)?;
     }
-}
-
-// How many copies a plan has on all disks, or 0 if it was refused.
-pub(crate) fn copies_of(rack: &[u64], o: Outcome, m: &[u64]) -> u64 {
-    if o.refusal > 0 {
-        return 0;
-    }
-    total(m, COUNTS, plus(COUNTS, rack.len()), Term::Film)
+    Ok(table)
 }

@@ -1,67 +1,53 @@
-// The disks of a case's rack, one number each.
-use crate::case::{Case, FAULTS, first_fault, second_fault};
-use crate::draw::{draw, from_to, narrow};
-use crate::plain::memory::{put, times};
-use placement::{Slots, Streams, disk_of};
+// The disks of a case's rack.
+use crate::case::Case;
+use crate::draw::{draw, from_to};
+use crate::fault::Fault;
+use crate::plain::Disk;
+use std::alloc::{AllocError, Global};
 
 // The disk that has a fault: the first, the last or any.
-fn faulty_disk(c: Case, place: u64) -> u32 {
-    let which = draw(c.number, place, 4);
-    match which {
+fn faulty_disk(case: &Case, place: u64) -> u32 {
+    match draw(case.number, place, 4) {
         0 => 0,
-        1 => std::num::wrapping_sub_u32(c.disks, 1),
-        _ => draw(c.number, place | 64, c.disks),
+        1 => case.disks.wrapping_sub(1),
+        _ => draw(case.number, place | 64, case.disks),
     }
 }
 
-// The fault of disk d: this one, if it is the disk that has it, or none.
-fn fault_of(c: Case, d: u32, fault: u32, place: u64) -> u32 {
-    if faulty_disk(c, place) == d {
-        fault
-    } else {
-        FAULTS
-    }
-}
-
-// Slots with a fault: at or beyond their limits, or one more or one fewer than the ratio wants.
-fn faulty_slots(slots: u32, fault: u32) -> u32 {
+// A disk with a fault, if this is one of a disk: a number at or beyond its limits, or one more or
+// one fewer than the ratio wants.
+fn with_fault(mut disk: Disk, fault: Option<Fault>) -> Disk {
     match fault {
-        2 => 0,
-        3 => 33,
-        18 => std::num::wrapping_add_u32(slots, 1),
-        19 => std::num::wrapping_sub_u32(slots, 1),
-        _ => slots,
+        Some(Fault::NoSlots) => disk.slots = 0,
+        Some(Fault::TooManySlots) => disk.slots = 33,
+        Some(Fault::SlotsAboveRatio) => disk.slots = disk.slots.wrapping_add(1),
+        Some(Fault::SlotsBelowRatio) => disk.slots = disk.slots.wrapping_sub(1),
+        Some(Fault::NoLoad) => disk.load = 0,
+        Some(Fault::LoadTooLarge) => disk.load = 65_536,
+        Some(Fault::LoadAboveRatio) => disk.load = disk.load.wrapping_add(1),
+        Some(Fault::LoadBelowRatio) => disk.load = disk.load.wrapping_sub(1),
+        _ => {}
     }
+    disk
 }
 
-// Load with a fault, likewise.
-fn faulty_load(load: u32, fault: u32) -> u32 {
-    match fault {
-        4 => 0,
-        5 => 65_536,
-        15 | 16 => std::num::wrapping_add_u32(load, 1),
-        17 => std::num::wrapping_sub_u32(load, 1),
-        _ => load,
+// Disk i, counted from 0: so many times the case's slots and load, with the faults that it has.
+fn disk(case: &Case, i: u32) -> Disk {
+    let size = from_to(case.number, 6_000 + u64::from(i), 1, case.sizes);
+    let mut disk = Disk {
+        slots: case.slots.wrapping_mul(size),
+        load: case.load.wrapping_mul(size),
+    };
+    if faulty_disk(case, 25) == i {
+        disk = with_fault(disk, case.first_fault);
     }
+    if faulty_disk(case, 26) == i {
+        disk = with_fault(disk, case.second_fault);
+    }
+    disk
 }
 
-// The number of disk d, counted from 0: so many times the case's slots and load, with the faults that it has.
-fn disk(c: Case, d: u32) -> u64 {
-    let size = from_to(c.number, 6_000 + (d as u64), 1, c.sizes) as u64;
-    let slots = narrow(times(c.slots as u64, size));
-    let load = narrow(times(c.load as u64, size));
-    let first = fault_of(c, d, first_fault(c.number), 25);
-    let second = fault_of(c, d, second_fault(c.number), 26);
-    disk_of(
-        Slots(faulty_slots(faulty_slots(slots, first), second)),
-        Streams(faulty_load(faulty_load(load, first), second)),
-    )
-}
-
-// Writes the disks of a case.
-pub(crate) fn write_rack(c: Case, rack: &mut [u64]) {
-    let disks = c.disks;
-    for d in 0..disks {
-        put(rack, d as usize, disk(c, d));
-    }
+// The disks of a case.
+pub(crate) fn rack_of(alloc: Global, case: &Case) -> Result<Vec<Disk>, AllocError> {
+    (0..case.disks).map(|i| disk(case, i)).collect(alloc)
 }

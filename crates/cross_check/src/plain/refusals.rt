@@ -1,66 +1,76 @@
-// Planning's refusals 12, 13, 2, 3 and 7.
-use crate::plain::memory::{at, film_of, number_of, times};
-use crate::plain::ranks::{Term, outside, total};
-use crate::plain::{Call, Outcome, refused};
+// Planning's refusals: 12, 13, 2, 3 and 7 of a call, and 4, 16, 5 and 6 of a record.
+use crate::plain::{Call, Disk, Entry, Refused, all_slots};
 
-// Whether the number of disks is outside its range, or a number of one of them.
-fn disks_outside(rack: &[u64]) -> bool {
-    if outside(rack.len() as u64, 64) {
-        return true;
-    }
-    total(rack, 0, rack.len(), Term::Outside) > 0
+// Whether the slots or the load of a disk are outside their ranges.
+fn is_outside(disk: &Disk) -> bool {
+    !(1..=32).contains(&disk.slots) || !(1..=65_535).contains(&disk.load)
 }
 
-// Whether a disk's load times disk 1's slots differs from disk 1's load times its slots.
-fn differs(disk: u64, first: u64) -> bool {
-    times(number_of(disk), film_of(first)) != times(number_of(first), film_of(disk))
+// Whether a disk's load times the first disk's slots differs from the first disk's load times its
+// slots.
+fn differs(disk: &Disk, first: &Disk) -> bool {
+    let here = u64::from(disk.load).wrapping_mul(u64::from(first.slots));
+    let there = u64::from(first.load).wrapping_mul(u64::from(disk.slots));
+    here != there
 }
 
-// The first disk, from 1, whose ratio is not that of disk 1, or 0.
-fn other_ratio(rack: &[u64]) -> u64 {
-    let first = at(rack, 0);
-    for i in 0..rack.len() {
-        if differs(at(rack, i), first) {
-            return (i + 1) as u64;
-        }
+// Refuses a rack that is outside its ranges, or a disk of another ratio than the first.
+fn judge_rack(rack: &[Disk]) -> Result<(), Refused> {
+    let first = rack.first().ok_or(Refused(12, 0))?;
+    if rack.len() > 64 || rack.iter().any(is_outside) {
+        return Err(Refused(12, 0));
     }
-    0
+    match rack.iter().position(|disk| differs(disk, first)) {
+        Some(place) => Err(Refused(13, (place as u64).wrapping_add(1))),
+        None => Ok(()),
+    }
 }
 
 // Whether a table is lent too short for the disks and so many records.
-fn lacks_places(c: Call, rack: &[u64], records: usize) -> bool {
-    if c.copies < total(rack, 0, rack.len(), Term::Film) as usize {
-        return true;
-    }
-    if c.counts < rack.len() {
-        return true;
-    }
-    c.left < records
+fn lacks_places(call: &Call, records: usize) -> bool {
+    let lent = call.lent;
+    lent.copies < all_slots(call.rack) || lent.counts < call.rack.len() || lent.left < records
 }
 
-// The first refusal of the list's length and of the tables, or 0.
-fn list_refusal(c: Call, rack: &[u64], bytes: usize) -> u32 {
-    if bytes % 8 != 0 {
-        return 2;
+// Refuses a call for its rack, the length of its list or the tables.
+fn judge_call(call: &Call) -> Result<(), Refused> {
+    judge_rack(call.rack)?;
+    let records = call.list.len() / 8;
+    if call.list.len() % 8 != 0 {
+        return Err(Refused(2, 0));
     }
-    if bytes / 8 > 1_024 {
-        return 3;
+    if records > 1_024 {
+        return Err(Refused(3, 0));
     }
-    if lacks_places(c, rack, bytes / 8) {
-        7
-    } else {
-        0
+    if lacks_places(call, records) {
+        return Err(Refused(7, 0));
+    }
+    Ok(())
+}
+
+// The number of a record's refusal, if it has one behind these others.
+fn record_refusal(earlier: &[Entry], record: &Entry) -> Option<u32> {
+    match record.film {
+        0 | 65_536.. => Some(4),
+        50_000..=65_535 => Some(16),
+        _ if record.viewers > 1_000_000 => Some(5),
+        film if earlier.iter().any(|other| other.film == film) => Some(6),
+        _ => None,
     }
 }
 
-// The first refusal that a call with a list of so many bytes gets before its records are looked at, or number 0.
-pub(crate) fn call_refusal(c: Call, rack: &[u64], bytes: usize) -> Outcome {
-    if disks_outside(rack) {
-        return refused(12, 0);
+// Refuses the first record that is to be refused.
+fn judge_records(records: &[Entry]) -> Result<(), Refused> {
+    for (i, record) in records.iter().enumerate() {
+        if let Some(number) = record_refusal(&records[..i], record) {
+            return Err(Refused(number, (i as u64).wrapping_add(1)));
+        }
     }
-    let disk = other_ratio(rack);
-    if disk > 0 {
-        return refused(13, disk);
-    }
-    refused(list_refusal(c, rack, bytes), 0)
+    Ok(())
+}
+
+// The first refusal that a call with these records gets.
+pub(crate) fn judge(call: &Call, records: &[Entry]) -> Result<(), Refused> {
+    judge_call(call)?;
+    judge_records(records)
 }
