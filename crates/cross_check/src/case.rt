@@ -11,11 +11,11 @@ pub(crate) enum Table {
     Left,
 }
 
-// A case: how many disks, their slots and load, and up to how many times as large a disk can be; how
-// many records, of which demands; how many times load and demands are taken, so that windows meet
-// the load exactly; and one more than how many times the load can be added to a demand, so that what
-// is left of a film equals other demands. Then its faults: how many bytes stand behind the records,
-// which table is lent too short, and the one or two faults that it has in all.
+// A case: how many disks, their slots and load, and up to how many times as large a disk can be;
+// how many records, of which demands; how many times load and demands are taken, so that windows
+// meet the load exactly; one more than how many times the load can be added to a demand, so that
+// what is left of a film equals other demands; how many bytes stand behind the records, which table
+// is lent too short, and the faults of all kinds.
 #[derive(Clone, Copy, Debug)]
 pub(crate) struct Case {
     pub(crate) number: u64,
@@ -30,8 +30,7 @@ pub(crate) struct Case {
     pub(crate) folds: u32,
     pub(crate) odd_bytes: usize,
     pub(crate) short: Option<Table>,
-    pub(crate) first_fault: Option<Fault>,
-    pub(crate) second_fault: Option<Fault>,
+    pub(crate) faults: [Option<Fault>; 2],
 }
 
 // Of each family the most disks, slots, load and records, and the lowest and the highest demand.
@@ -54,7 +53,7 @@ fn family(number: u64) -> u64 {
 }
 
 // A case of equal disks as the table of families has it.
-fn plain(number: u64) -> Case {
+fn base_case(number: u64) -> Case {
     let [disks, slots, load, records, low, high] = FAMILIES[(number % 10) as usize];
     Case {
         number,
@@ -69,8 +68,7 @@ fn plain(number: u64) -> Case {
         folds: 1,
         odd_bytes: 0,
         short: None,
-        first_fault: None,
-        second_fault: None,
+        faults: [None; 2],
     }
 }
 
@@ -121,7 +119,7 @@ fn crowded(mut case: Case) -> Case {
 
 // A case of equal disks of its family.
 fn of_family(number: u64) -> Case {
-    let case = plain(number);
+    let case = base_case(number);
     match family(number) {
         2 => Case { folds: 3, ..case },
         3 => exact(case),
@@ -146,11 +144,11 @@ fn unequal(case: Case) -> Case {
     if draw(case.number, 17, 4) == 0 {
         return case;
     }
-    let mut unequal = smaller(case);
-    let by_slots = 32u32.checked_div(unequal.slots).unwrap_or(0);
-    let by_load = 65_535u32.checked_div(unequal.load).unwrap_or(0);
-    unequal.sizes = from_to(case.number, 18, 2, 8).min(by_slots).min(by_load);
-    unequal
+    let case = smaller(case);
+    let by_slots = 32u32.checked_div(case.slots).unwrap_or(0);
+    let by_load = 65_535u32.checked_div(case.load).unwrap_or(0);
+    let sizes = from_to(case.number, 18, 2, 8).min(by_slots).min(by_load);
+    Case { sizes, ..case }
 }
 
 // The table that is lent too short.
@@ -178,12 +176,16 @@ fn with_fault(mut case: Case, fault: Option<Fault>) -> Case {
 
 // The case of a number. Families 8 and 9 have a fault, family 9 a second one.
 pub(crate) fn case_of(number: u64) -> Case {
-    let mut case = unequal(of_family(number));
-    if family(number) >= 8 {
-        case.first_fault = Fault::drawn(number, 6);
-    }
-    if family(number) == 9 {
-        case.second_fault = Fault::drawn(number, 7);
-    }
-    with_fault(with_fault(case, case.first_fault), case.second_fault)
+    let faults = match family(number) {
+        8 => [Fault::drawn(number, 6), None],
+        9 => [Fault::drawn(number, 6), Fault::drawn(number, 7)],
+        _ => [None; 2],
+    };
+    let case = Case {
+        faults,
+        ..unequal(of_family(number))
+    };
+    faults
+        .iter()
+        .fold(case, |case, fault| with_fault(case, *fault))
 }

@@ -28,21 +28,24 @@ pub(crate) struct Compared {
     pub(crate) is_same: bool,
 }
 
-// The proved planner's sums.
-fn proved_sums(sums: PlanSums) -> Sums {
-    Sums {
-        served: sums.served,
-        unserved: sums.unserved,
-        left: u64::from(sums.left),
+impl From<PlanSums> for Sums {
+    fn from(sums: PlanSums) -> Sums {
+        Sums {
+            served: sums.served,
+            unserved: sums.unserved,
+            left: u64::from(sums.left),
+        }
     }
 }
 
 // The proved planner's refusal in the documents' numbers.
-fn proved_refusal(refusal: Refusal) -> Refused {
-    Refused(
-        refusal::number(refusal),
-        u64::from(refusal::second(refusal)),
-    )
+impl From<Refusal> for Refused {
+    fn from(refusal: Refusal) -> Refused {
+        Refused(
+            refusal::number(refusal),
+            u64::from(refusal::second(refusal)),
+        )
+    }
 }
 
 // What the proved planner answers on the lent parts of the tables.
@@ -63,7 +66,7 @@ fn proved_answer(alloc: Global, call: &Call) -> Result<Answer, AllocError> {
         &mut tables.left[..left],
     );
     Ok(Answer {
-        sums: sums.map(proved_sums).map_err(proved_refusal),
+        sums: sums.map(Sums::from).map_err(Refused::from),
         tables,
     })
 }

@@ -44,8 +44,8 @@ fn film_of(case: &Case, i: u32) -> u32 {
     if !is_faulty(case, i) {
         return own;
     }
-    let faulty = with_fault(own, case.number, i, case.first_fault);
-    with_fault(faulty, case.number, i, case.second_fault)
+    let faults = case.faults.iter();
+    faults.fold(own, |film, fault| with_fault(film, case.number, i, *fault))
 }
 
 // Whether the demand of record i is turned to 0: of 16 cases one turns all, three turn one in 2,
@@ -74,8 +74,7 @@ fn own_demand(case: &Case, i: u32) -> u32 {
 
 // The demand of record i, which a fault makes too large.
 fn demand_of(case: &Case, i: u32) -> u32 {
-    let too_large = Some(Fault::DemandTooLarge);
-    if is_faulty(case, i) && (case.first_fault == too_large || case.second_fault == too_large) {
+    if is_faulty(case, i) && case.faults.contains(&Some(Fault::DemandTooLarge)) {
         return 1_000_001;
     }
     own_demand(case, i)

@@ -1,8 +1,8 @@
 // A plain planner, written from the words of document 01 and of 02's requests P1 and P2 alone, that
-// the proved planner is compared with. Its records stay in the order of the file. For each number of
-// slots it goes through all disks and fills those that have as many. Each disk makes its list anew,
-// each film of demand 0 looks for its slot anew, and each sum is made anew. A record whose film is on
-// the disks, and of which nothing is left, leaves the records.
+// the proved planner is compared with. Its records stay in the order of the file. For each number
+// of slots it goes through all disks and fills those that have as many. Each disk makes its list
+// anew, each film of demand 0 looks for its slot anew, and each sum is made anew. A record whose
+// film is on the disks, and of which nothing is left, leaves the records.
 mod filling;
 mod records;
 mod refusals;

@@ -38,11 +38,10 @@ fn disk(case: &Case, i: u32) -> Disk {
         slots: case.slots.wrapping_mul(size),
         load: case.load.wrapping_mul(size),
     };
-    if faulty_disk(case, 25) == i {
-        disk = with_fault(disk, case.first_fault);
-    }
-    if faulty_disk(case, 26) == i {
-        disk = with_fault(disk, case.second_fault);
+    for (fault, place) in case.faults.iter().zip([25, 26]) {
+        if faulty_disk(case, place) == i {
+            disk = with_fault(disk, *fault);
+        }
     }
     disk
 }

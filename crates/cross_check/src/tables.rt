@@ -23,14 +23,16 @@ pub(crate) struct Tables {
 }
 
 // An entry as one number: the film, and from bit 32 on its viewers.
-fn packed(entry: Entry) -> u64 {
-    u64::from(entry.film) | (u64::from(entry.viewers) << 32)
+impl From<Entry> for u64 {
+    fn from(entry: Entry) -> u64 {
+        u64::from(entry.film) | (u64::from(entry.viewers) << 32)
+    }
 }
 
 // Writes entries into the first places of a table.
 fn write(table: &mut [u64], entries: &[Entry]) {
     for (place, entry) in table.iter_mut().zip(entries) {
-        *place = packed(*entry);
+        *place = u64::from(*entry);
     }
 }
 
