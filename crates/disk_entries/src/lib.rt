@@ -19,7 +19,7 @@ pub struct DiskEntry {
 }
 
 // Disks as numbers: the first `count` of `disks`. What they hold is all that a packed rack says; no function looks further.
-// No ArrayVec: `held_count` and `unpack` answer for every value, a count above 65 included, which that type excludes.
+// No ArrayVec: `held_count` and `unpack` answer for counts above 65 too, which it excludes.
 #[derive(Clone, Copy, Debug)]
 pub struct PackedDisks {
     pub count: usize,
