@@ -16,7 +16,8 @@ use crate::worklist::WorkingList;
 use placement::LentTables;
 
 // Plans into the lent tables. What is left is the films of demand 0 without a slot, and what the
-// method leaves.
+// method leaves. Not inlined, for the reason that stands at `judge`.
+#[inline(never)]
 pub(crate) fn fill_tables(rack: &[u64], list: &[u8], tables: &mut LentTables) -> PlanSums
     requires { Plannable (call (disks_in rack.now) list.now) (held tables.old) }
     ensures result_value { sums_of result ≡ sums_in (call (disks_in rack.now) list.now) }

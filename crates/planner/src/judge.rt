@@ -9,7 +9,9 @@ use demand_list::{judge_list, judge_shape};
 use placement::{LentTables, judge_rack, room};
 use refusal::Refusal;
 
-// The first refusal of planning that applies.
+// The first refusal of planning that applies. Not inlined, so that its table of seen films and the
+// lists of planning are not on the stack at the same time.
+#[inline(never)]
 pub(crate) fn judge(rack: &[u64], list: &[u8], tables: &LentTables) -> Result<(), Refusal>
     ensures { verdict_of result ≡ verdict (call (disks_in rack.now) list.now) (held tables.now) }
 {
