@@ -5,8 +5,7 @@ use mathlib.Core.List.{List, ◌++◌}
 use Prim.Native.Nat.{ℕ, ◌*◌, ◌≤◌}
 use native.Mathlib.Omega.{arith}
 use lib.Dec.{leb}
-use lib.ListN.{length, take, drop, length-take}
-use lib.Seq.{take-take}
+use lib.ListN.{length, take, drop}
 use Rattle.refusal.specs.Verdict.{Verdict, given, refused, unless, Numbers}
 use Rattle.refusal.specs.Numbers.{number_of}
 use Rattle.refusal.specs.declared.Refusal.{Refusal}
@@ -23,7 +22,7 @@ use Rattle.placement.proofs.Formed.{plan_rack, plan_left, left_count}
 use Rattle.plan_text.specs.ReadCall.{Told, answer_to, text_verdict, with_tables}
 use Rattle.plan_text.proofs.Verdicts.{verdict_well_formed}
 use Rattle.reader.specs.declared.answer.PlanRead.{PlanRead}
-use Rattle.std.specs.Prelude.{Result, Ok, Err}
+use Rattle.std.specs.Prelude.{Ok, Err}
 use Rattle.reader.specs.Answers.{numbers_of}
 use Rattle.reader.specs.Pass.{Judged}
 use Rattle.reader.specs.Stored.{front_copied, fronts_copied}

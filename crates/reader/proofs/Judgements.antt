@@ -17,7 +17,7 @@ use Rattle.plan_text.specs.Reading.{Reading, whole, refused_after, plan_read_wit
 use Rattle.plan_text.specs.Capped.{saturated, plan_read_capped}
 use Rattle.plan_text.specs.ReadCall.{lines_judged, answer_to, text_verdict, most_bytes}
 use Rattle.plan_text.proofs.Laws.{capped_read}
-use Rattle.std.specs.Prelude.{Result, Ok, Err}
+use Rattle.std.specs.Prelude.{Err}
 use Rattle.reader.specs.Pass.{Judged}
 
 -- A plan is no refusal.

@@ -5,7 +5,7 @@ use mathlib.Core.List.{List, [], ◌∷◌, ◌++◌}
 use Prim.Native.Nat.{ℕ}
 use Rattle.plan_text.specs.Ascii.{ascii}
 use Rattle.plan_text.specs.Decimal.{decimal}
-use Rattle.plan_text.specs.Text.{space, closed, line_feed, disk_head, served_line}
+use Rattle.plan_text.specs.Text.{space, closed, line_feed, served_line}
 use Rattle.plan_text.specs.Parse.{Parse, parsed, unparsed, next, byte, literal}
 use Rattle.plan_text.specs.Reading.{line}
 use Rattle.plan_text.proofs.Pieces.{unparsed_parsed}

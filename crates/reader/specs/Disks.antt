@@ -1,5 +1,5 @@
 -- What the lines of all disks are, where their copies stand in tables that were zero.
-use Rattle.std.specs.Prelude.{ℕ, ◌+◌, ◌≤◌, ◌≡◌, true, List, ◌++◌, map, length, Result, IfOk, IfErr}
+use Rattle.std.specs.Prelude.{ℕ, ◌+◌, ◌≡◌, true, List, ◌++◌, map, length, Result, IfOk, IfErr}
 use Rattle.placement.specs.Items.{Item}
 use Rattle.placement.specs.Copies.{Copy, copy_of}
 use Rattle.placement.specs.Rack.{Disk, all_slots, rack_accepted}
