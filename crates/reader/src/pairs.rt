@@ -33,7 +33,6 @@ impl Listed for Pair {
 
     ghost reads = { pair saturated };
 
-    #[inline]
     fn read(cursor: &mut Cursor) -> Option<(u32, u32)> {
         let (film, amount) = cursor.pair_start()?;
         cursor.eat(b')')?;
@@ -50,7 +49,6 @@ impl Listed for StoredCopy {
     ghost reads = { halves_read };
 
     #[tactic(auto, using(crate::proofs::CopyEnds::halves_parts))]
-    #[inline]
     fn read(cursor: &mut Cursor) -> Option<(u32, u32)> {
         let (film, viewers) = cursor.pair_start()?;
         let low = cursor.copy_end(film, viewers)?;
@@ -60,7 +58,6 @@ impl Listed for StoredCopy {
 
 impl<'a> Cursor<'a> {
     // Reads the two numbers of a pair.
-    #[inline]
     fn pair_start(&mut self) -> Option<(u32, u32)>
         ensures { parse_by (λ p. item p.0 p.1) result self.new ≡ pair_start saturated self.old }
     {
@@ -73,7 +70,6 @@ impl<'a> Cursor<'a> {
 
     // Reads the end of a copy of this film; the mark goes into the low half.
     #[tactic(auto, using(crate::proofs::CopyEnds::end_large, crate::proofs::CopyEnds::end_closed, crate::proofs::CopyEnds::end_held))]
-    #[inline]
     fn copy_end(&mut self, film: u32, viewers: u32) -> Option<u32>
         ensures { parse_by (λ f. item f viewers) result self.new
             ≡ halves_end (item film viewers) self.old }
