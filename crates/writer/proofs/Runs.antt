@@ -1,18 +1,15 @@
 -- The lines of a text as the runs that the writer stores.
-use Rattle.std.proofs.Common.{◌≡◌, ℕ, zero, suc, ◌+◌, ◌<◌, ◌≤◌, true, false, List, [], ◌∷◌, ◌++◌, map, length, get_or, take, take_all, arith, sym, refl, ap, ◌∙◌, ap₂, append_assoc}
+use Rattle.std.proofs.Common.{◌≡◌, ℕ, zero, suc, ◌+◌, ◌<◌, ◌≤◌, List, [], ◌∷◌, ◌++◌, map, length, get_or, take, take_all, arith, sym, refl, ap, ◌∙◌, append_assoc}
 use Rattle.std.proofs.lemmas.Grind.{common_steps}
 use Rattle.std.specs.List.{flat_map}
 use Rattle.placement.specs.Items.{Item}
 use Rattle.placement.specs.Copies.{Copy, copy_of}
-use Rattle.placement.specs.Rack.{first_slots, first_load, all_equal}
 use Rattle.placement.specs.Tables.{item_in, copy_in, copies_in}
-use Rattle.placement.specs.Packed.{disk_in, disks_in}
+use Rattle.placement.specs.Packed.{disks_in}
 use Rattle.placement.specs.Plan.{Plan, served_of, unserved_of}
-use Rattle.placement.proofs.Conjunctions.{cond_true, cond_false}
-use Rattle.placement.proofs.PackedRacks.{disks_length, first_slots_lem, first_load_lem}
 use Rattle.plan_text.specs.Ascii.{ascii}
 use Rattle.plan_text.specs.Decimal.{decimal}
-use Rattle.plan_text.specs.Text.{space, closed, line_feed, pair_text, pairs_text, mark_end, copy_text, spaced_text, copies_text, lines, disks_then, rack_line, disk_item, mixed_head, mixed_line, first_line, disk_line, left_line, served_line, text_of}
+use Rattle.plan_text.specs.Text.{space, closed, line_feed, pair_text, pairs_text, mark_end, copy_text, spaced_text, copies_text, lines, disks_then, rack_line, disk_item, first_line, disk_line, left_line, served_line, text_of}
 use Rattle.writer.specs.Space.{two_text, disk_lines}
 
 -- The entries of a line, one behind the other, and the closing bracket.
@@ -64,23 +61,6 @@ disk_runs n copies = simp append_assoc
 pub items_packed : (rack : List ℕ) → map item_in rack ≡ map disk_item (disks_in rack)
 items_packed [] = refl
 items_packed (n ∷ ns) = ap (λ (xs : List Item). item_in n ∷ xs) (items_packed ns)
-
--- The line of disks that differ is three runs.
-pub mixed_runs : (rack : List ℕ) → mixed_head ++ (pairs_text (map item_in rack) ++ (line_feed ∷ [])) ≡ lines (mixed_line (disks_in rack) ∷ [])
-mixed_runs rack = ap (λ (xs : List Item). mixed_head ++ (pairs_text xs ++ (line_feed ∷ []))) (items_packed rack)
-
--- The first line of equal disks has their number, and the slots and streams of the first.
-pub first_equal :
-    (rack : List ℕ) (slots load : ℕ) → all_equal (disks_in rack) ≡ true → 1 ≤ length rack → slots ≡ (disk_in (get_or rack 0 0)).slots
-    → load ≡ (disk_in (get_or rack 0 0)).load → rack_line (length rack) slots load ≡ first_line (disks_in rack)
-first_equal rack slots load equal some k l =
-    ap₂ (λ (s t : ℕ). rack_line (length rack) s t) (k ∙ sym (first_slots_lem rack some)) (l ∙ sym (first_load_lem rack some))
-    ∙ ap (λ (n : ℕ). rack_line n (first_slots (disks_in rack)) (first_load (disks_in rack))) (sym (disks_length rack))
-    ∙ sym (cond_true (all_equal (disks_in rack)) _ (mixed_line (disks_in rack)) equal)
-
--- That of other disks has their pairs.
-pub first_mixed : (rack : List ℕ) → all_equal (disks_in rack) ≡ false → mixed_line (disks_in rack) ≡ first_line (disks_in rack)
-first_mixed rack other = sym (cond_false (all_equal (disks_in rack)) _ (mixed_line (disks_in rack)) other)
 
 -- A line stands before the lines after it.
 pub line_before : (line : List ℕ) (after : List (List ℕ)) → lines (line ∷ []) ++ lines after ≡ lines (line ∷ after)
