@@ -5,7 +5,7 @@ ghost use Rattle.transfer_schedule.specs.Schedule.{transfer, place_all, schedule
 ghost use Rattle.transfer_schedule.specs.Fits.{most_transfers, CopyFits, TransferFits};
 ghost use Rattle.transfer_schedule.specs.Transfers.{transfer_entry};
 ghost use Rattle.transfer_schedule.specs.Words.{InOrder};
-ghost use Rattle.transfers.specs.Keys.{stored_in, row_length, BusyTable, FullTable, SearchStarts, PlacedNext, TransfersMade};
+ghost use Rattle.transfers.specs.Keys.{stored_in, row_length, SearchStarts, PlacedNext, TransfersMade};
 ghost use Rattle.transfers.specs.Answers.{transfer_numbers};
 
 use crate::answer::InRounds;
@@ -23,17 +23,17 @@ fn entry_of(source: u64, destination: u64, film: u64, round: u64) -> u64
     ((round * 256 + destination) * 256 + source) * 65536 + film
 }
 
-// The entry of the transfer of a copy behind n others, whose ends are busy in its round from then on.
-fn place(key: u64, old: &[u64], starts: &[u16; 4_096], rounds: &mut Rounds, n: usize) -> u64
+// The entry of the transfer of a copy behind those that are placed, whose ends are busy in its round from then on.
+fn place(key: u64, old: &[u64], starts: &[u16; 4_096], rounds: &mut Rounds) -> u64
     requires copy_fits { CopyFits (stored_in key) × Each CopyFits (map stored_in old.now) × SearchStarts starts.now (map stored_in old.now) }
-    requires full { FullTable rounds.old.busy rounds.old.full n × (n < row_length) }
-    ensures placed_next { PlacedNext (map stored_in old.now) (stored_in key) n rounds.old.busy rounds.new.busy result }
-    ensures full { FullTable rounds.new.busy rounds.new.full (n + 1) }
+    requires placed { rounds.old.placed < row_length }
+    ensures placed_next { PlacedNext (map stored_in old.now) (stored_in key) rounds.old.placed rounds.old.busy rounds.new.busy result }
+    ensures placed { rounds.new.placed ≡ rounds.old.placed + 1 }
 {
     let film = key % DISK;
     let destination = key / DISK;
     let source = source_of(film, old, starts);
-    let round = rounds.take(source as usize, destination as usize, n);
+    let round = rounds.take(source as usize, destination as usize);
     entry_of(source, destination, film, round as u64)
 }
 
@@ -46,8 +46,8 @@ fn place_all(old: &[u64], starts: &[u16; 4_096], keys: &mut [u64]) -> u64
 {
     let mut rounds = Rounds::new();
     let mut last = 0u64;
-    for (i, key) in keys.iter_mut().enumerate() {
-        let entry = place(*key, old, starts, &mut rounds, i);
+    for key in keys.iter_mut() {
+        let entry = place(*key, old, starts, &mut rounds);
         *key = entry;
         last = last.max(entry / 65536 / 256 / 256);
     }

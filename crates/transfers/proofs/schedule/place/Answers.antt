@@ -18,7 +18,7 @@ entry_of-requires c =
       source = omega (arith, source_few);
       destination = omega (arith, c.requires.copy_fits.0.disk);
       film = c.requires.copy_fits.0.film;
-      round = omega (arith, c.take-round.ensures.upper_bound, c.requires.full.1);
+      round = omega (arith, c.take-round.ensures.upper_bound, c.requires.placed);
     }
 
 pub take-round-requires : goal.take-round-requires
@@ -26,7 +26,7 @@ take-round-requires c =
     let source_few : c.source_of-source.result ≤ 8 = omega (arith, c.source_of-source.ensures, source_fits (map stored_in c.args.old.now) (c.args.key % 16777216) c.requires.copy_fits.1) in
     record {
       ends = (omega (arith, source_few), omega (arith, c.requires.copy_fits.0.disk));
-      full = c.requires.full;
+      placed = c.requires.placed;
     }
 
 pub returns : goal.returns
@@ -38,5 +38,5 @@ returns c =
     let made_is : (placed : List Transfer) → c.take-round.result ≡ earliest placed c.source_of-source.result disk → made ≡ transfer_for old placed (stored_in c.args.key) = (λ placed first. ap₂ (λ (s r : ℕ). transfer s disk film r) c.source_of-source.ensures (first ∙ ap (λ (s : ℕ). earliest placed s disk) c.source_of-source.ensures)) in
     record {
       placed_next = λ placed long table. let taken = c.take-round.ensures.round_taken placed long table in (c.entry_of.ensures ∙ ap transfer_entry (made_is placed taken.0), subst (λ (t : Transfer). BusyTable c.take-round.new.self.busy (placed ++ (t ∷ []))) (made_is placed taken.0) (taken.1 film));
-      full = c.take-round.ensures.full;
+      placed = c.take-round.ensures.placed;
     }

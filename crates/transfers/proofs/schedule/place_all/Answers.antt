@@ -48,33 +48,33 @@ turn old keys keys' i fit less is =
 
 pub place-entry-requires : goal.place-entry-requires
 place-entry-requires c =
-    let t = turn c.args.old.now c.args.keys.now c.loop-i.keys c.loop-i.i c.requires.each.1 c.loop-i-test.true c.loop-i.invariant.keys in
+    let t = turn c.args.old.now c.args.keys.now c.loop-key.keys c.loop-key.key-index c.requires.each.1 c.loop-key-test.true c.loop-key.invariant.keys in
     record {
       copy_fits = (t.fits, c.requires.each.0, c.requires.search_starts);
-      full = (c.loop-i.invariant.full, omega (arith, t.less, c.requires.each.2));
+      placed = omega (arith, t.less, c.requires.each.2, c.loop-key.invariant.placed);
     }
 
-pub loop-i-preserved : goal.loop-i-preserved
-loop-i-preserved c =
+pub loop-key-preserved : goal.loop-key-preserved
+loop-key-preserved c =
     let old = c.args.old.now in
     let keys = c.args.keys.now in
-    let i = c.loop-i.i in
-    let t = turn old keys c.loop-i.keys i c.requires.each.1 c.loop-i-test.true c.loop-i.invariant.keys in
+    let i = c.loop-key.key-index in
+    let t = turn old keys c.loop-key.keys i c.requires.each.1 c.loop-key-test.true c.loop-key.invariant.keys in
     let copies = map stored_in old in
-    let copy = stored_in (get_or c.loop-i.keys i 0) in
+    let copy = stored_in (get_or c.loop-key.keys i 0) in
     let placed = placed_to old keys i in
-    let next = c.place-entry.ensures.placed_next placed t.number c.loop-i.invariant.busy in
+    let next = c.place-entry.ensures.placed_next placed (t.number ∙ sym c.loop-key.invariant.placed) c.loop-key.invariant.busy in
     let fits = transfer_fits copies c.requires.each.0 placed copy t.fits (omega (arith, t.number, t.less, c.requires.each.2)) in
     record {
-      keys = ap (λ (l : List ℕ). set l i c.place-entry.result) c.loop-i.invariant.keys
+      keys = ap (λ (l : List ℕ). set l i c.place-entry.result) c.loop-key.invariant.keys
           ∙ front_more (map transfer_entry placed) keys i t.long t.less c.place-entry.result
           ∙ ap (λ (front : List ℕ). front ++ drop (i + 1) keys)
           (ap (λ (e : ℕ). map transfer_entry placed ++ (e ∷ [])) next.0 ∙ sym (map_last transfer_entry placed (transfer_for copies placed copy))
           ∙ ap (map transfer_entry) t.more);
       busy = subst (BusyTable c.place-entry.new.rounds.busy) t.more next.1;
-      full = c.place-entry.ensures.full;
+      placed = omega (arith, c.place-entry.ensures.placed, c.loop-key.invariant.placed);
       last = c.max-last.ensures
-          ∙ ap₂ max c.loop-i.invariant.last (ap (λ (e : ℕ). (transfer_in e).round) next.0 ∙ ap (λ (t : Transfer). t.round) (transfer_entry_lem (transfer_for copies placed copy) fits))
+          ∙ ap₂ max c.loop-key.invariant.last (ap (λ (e : ℕ). (transfer_in e).round) next.0 ∙ ap (λ (t : Transfer). t.round) (transfer_entry_lem (transfer_for copies placed copy) fits))
           ∙ sym (rounds_last placed (transfer_for copies placed copy))
           ∙ ap rounds_of t.more;
     }

@@ -1,4 +1,4 @@
--- `Rounds::earliest` meets its contract. The invariant: the earliest of all n rounds is the earliest of those from r + 1 on.
+-- `Rounds::earliest` meets its contract. The invariant: the earliest of all rounds is the earliest of those from r + 1 on.
 use mathlib.Core.Path.{◌≡◌}
 use mathlib.Core.List.{List}
 use Prim.Native.Nat.{ℕ, suc, ◌-◌, ◌≤◌}
@@ -12,4 +12,4 @@ RoundsPassed busy source destination n r = (placed : List Transfer) → BusyTabl
     → earliest_from n placed source destination 1 ≡ earliest_from (n - r) placed source destination (suc r)
 
 abbrev pub invariant-loop-r : goal.invariant-loop-r
-invariant-loop-r l = RoundsPassed l.self.busy l.source l.destination l.n l.r
+invariant-loop-r l = RoundsPassed l.self.busy l.source l.destination l.self.placed l.r

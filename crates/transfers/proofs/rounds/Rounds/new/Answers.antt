@@ -21,5 +21,8 @@ no_rounds = record {
   ones = λ end few r less. absurd (omega (arith, less, get_or-replicate {A = ℕ} ends end 0 0 few));
 }
 
-pub returns : goal.returns
-returns c = (free_table, no_rounds)
+pub returns-clause-busy : goal.returns-clause-busy
+returns-clause-busy c = free_table
+
+pub invariant_of-result : goal.invariant_of-result
+invariant_of-result c = record { full_table = no_rounds }
