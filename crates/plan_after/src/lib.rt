@@ -1,4 +1,5 @@
-// Planning after an earlier plan: the plan of a demand list, and a mark at each copy that the same disk held before.
+// Planning after an earlier plan: the plan of a demand list, and a mark at each copy that the same
+// disk held before.
 #![tactic(auto)]
 
 mod mark; // mark.rt: marks in the copy table
@@ -15,8 +16,9 @@ use placement::PlanTables;
 use planner::{PlanSums, plan, plan_behind};
 use refusal::Refusal;
 
-// Plans for a rack of disks, one number each, from the bytes of a demand list and of an earlier plan's text. The plan goes into the lent tables, each copy
-// marked whose film the same disk held in the earlier plan. A refusal changes none of them.
+// Plans for a rack of disks, one number each, from the bytes of a demand list and of an earlier
+// plan's text. The plan goes into the lent tables, each copy marked whose film the same disk held
+// in the earlier plan. A refusal changes none of them.
 pub fn plan_after(
     rack: &[u64],
     list: &[u8],

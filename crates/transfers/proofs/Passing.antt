@@ -12,9 +12,8 @@ use borrow.Author.Tests.{le-leb, lt-leb, ltb-false, eqb-true, eqb-false}
 use lib.Dec.{eqb}
 use lib.ListN.{length, take, drop, get_or, set, length-map, length-drop, drop_of_length-le}
 use Rattle.std.proofs.lemmas.List.{take_all}
-use lib.Seq.{get_or-drop, take-suc, take-set-le, take-suc-set}
+use lib.Seq.{get_or-drop, take-set-le, take-suc-set}
 use Rattle.placement.specs.WellFormed.{Each}
-use Rattle.placement.proofs.Each.{each_append}
 use Rattle.placement.proofs.Tests.{by_order, by_test}
 use Rattle.placement.proofs.Conjunctions.{cond_true, cond_false}
 use Rattle.transfer_schedule.specs.Stored.{StoredCopy, is_stored}

@@ -1,5 +1,6 @@
 -- What the steps of transfers hold: stored copies and transfers as numbers, and which ends are busy in which round.
 use Rattle.std.specs.Prelude.{ℕ, suc, ◌+◌, ◌*◌, ◌/◌, ◌%◌, ◌≤◌, ◌<◌, ◌≡◌, Bool, true, cond, List, [], ◌∷◌, ◌++◌, map, ◌⊎◌, eqb, length, take, get_or}
+use Rattle.std.specs.Coded.{Unit-prop, ×_prop, →_prop, Π_prop}
 use Rattle.refusal.specs.Verdict.{Verdict, given, refused, Numbers}
 use Rattle.placement.specs.Rack.{Disk}
 use Rattle.placement.specs.Packed.{disks_in}
@@ -89,10 +90,17 @@ NoneOf film cs = Each (λ (c : StoredCopy). c.film ≡ film → ⊥) cs
 abbrev pub start_places : ℕ
 start_places = 4096
 
+-- There is one proof of it at most.
+NoneOf-prop : (film : ℕ) (cs : List StoredCopy) → IsProp (NoneOf film cs)
+NoneOf-prop film [] = Unit-prop
+NoneOf-prop film (c ∷ cs) = ×_prop (→_prop (λ a b. absurd a)) (NoneOf-prop film cs)
+
 -- Where the search for a film starts, by its remainder: no copy before that place has the film.
-pub record SearchStarts (starts : List ℕ) (cs : List StoredCopy) : Type 0 where
-  pub wide : length starts ≡ start_places
-  pub none : (film : ℕ) → NoneOf film (take (get_or starts (film % start_places) 0) cs)
+abbrev pub SearchStarts : (starts : List ℕ) → (cs : List StoredCopy) → Type 0
+SearchStarts starts cs = (film : ℕ) → NoneOf film (take (get_or starts (film % start_places) 0) cs)
+
+pub SearchStarts-prop : (starts : List ℕ) (cs : List StoredCopy) → IsProp (SearchStarts starts cs)
+SearchStarts-prop starts cs = Π_prop (λ film. NoneOf-prop film (take (get_or starts (film % start_places) 0) cs))
 
 -- The keys before a place are below a key, and the one there is not.
 pub record PassedTo (keys : List ℕ) (key at : ℕ) : Type 0 where

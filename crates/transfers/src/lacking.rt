@@ -1,4 +1,5 @@
-// The new copies that the old plan hasn't on the same disk: both lists of keys ascend, so that one pass over both finds them.
+// The new copies that the old plan hasn't on the same disk: both lists of keys ascend, so that one
+// pass over both finds them.
 ghost use Rattle.std.specs.Prelude.{◌≡◌, map, ◌≤◌, ◌<◌, length, take, nat_le, position};
 ghost use Rattle.placement.specs.WellFormed.{Each};
 ghost use Rattle.transfer_schedule.specs.Stored.{is_stored};
@@ -33,10 +34,11 @@ fn stands_at(old: &[u64], at: usize, key: u64) -> bool
     at < old.len() && old[at] == key
 }
 
-// Puts the keys of the new copies that the old plan lacks in front, and answers how many there are. The old keys before `at` are below the next
-// one.
+// Puts the keys of the new copies that the old plan lacks in front, and answers how many there are.
+// The old keys before `at` are below the next one.
 pub(crate) fn put_lacking(old: &[u64], new: &[u64], keys: &mut [u64]) -> usize
-    requires { InOrder (map stored_in old.now) × InOrder (map stored_in new.now) × (length new.now ≤ length keys.old) }
+    requires { InOrder (map stored_in old.now) × InOrder (map stored_in new.now)
+        × (length new.now ≤ length keys.old) }
     ensures keys_after { stored_at result keys.new ≡ lacking (map stored_in old.now) (map stored_in new.now) }
     ensures upper_bound { result ≤ length new.now }
 {

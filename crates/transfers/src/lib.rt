@@ -1,4 +1,5 @@
-// Transfers from an old plan to a new one, in rounds in which every disk and the loader take part in at most one.
+// Transfers from an old plan to a new one, in rounds in which every disk and the loader take part
+// in at most one.
 #![tactic(auto)]
 
 mod answer; // answer.rt: what transfers answer
@@ -29,7 +30,8 @@ const ROWS: usize = 9;
 // The most transfers: one for each copy of a new plan.
 pub(crate) const MOST_TRANSFERS: usize = 256;
 
-// Works out the transfers of two texts: their entries stand in front, or the answer is a refusal of the texts.
+// Works out the transfers of two texts: their entries stand in front, or the answer is a refusal of
+// the texts.
 fn work_out(
     old: &[u8],
     new: &[u8],
@@ -43,8 +45,8 @@ fn work_out(
     Ok(transfers_between(&oldkeys[..old_copies], &newkeys[..new_copies], entries))
 }
 
-// Gives the transfers from an old plan's text to a new one's: the lent list gets an entry for each, and the lent table their counts by source and
-// destination. A refusal changes neither.
+// Gives the transfers from an old plan's text to a new one's: the lent list gets an entry for each,
+// and the lent table their counts by source and destination. A refusal changes neither.
 pub fn transfers_counted(
     old: &[u8],
     new: &[u8],
@@ -71,7 +73,8 @@ pub fn transfers_counted(
     Ok(made)
 }
 
-// Gives the transfers from an old plan's text to a new one's: the lent list gets an entry for each. A refusal changes nothing.
+// Gives the transfers from an old plan's text to a new one's: the lent list gets an entry for each.
+// A refusal changes nothing.
 pub fn transfers(old: &[u8], new: &[u8], list: &mut [u64]) -> Result<InRounds, Refusal>
     ensures promise { TransfersPromise old.now new.now list.old list.new ends (transfer_numbers result) }
     ensures unchanged { OnErr result (list.new ≡ list.old) }
@@ -80,7 +83,8 @@ pub fn transfers(old: &[u8], new: &[u8], list: &mut [u64]) -> Result<InRounds, R
     transfers_counted(old, new, list, &mut table)
 }
 
-// The counts of the transfers from an old plan's text to a new one's, all zero where the texts are refused.
+// The counts of the transfers from an old plan's text to a new one's, all zero where the texts are
+// refused.
 pub fn transfer_counts(old: &[u8], new: &[u8]) -> [[u32; 9]; 9]
     ensures { CountsPromise old.now new.now result }
 {

@@ -1,4 +1,5 @@
-// Rounds: a table says in which rounds each end is busy, and another how many from the first on are known to be.
+// Rounds: a table says in which rounds each end is busy, and another how many from the first on are
+// known to be.
 ghost use Rattle.std.specs.Prelude.{◌≡◌, [], ◌+◌, ◌-◌, ◌*◌, ◌≤◌, ◌<◌, ◌&&◌, eqb, set};
 ghost use Rattle.transfer_schedule.specs.Counts.{ends};
 ghost use Rattle.transfers.specs.Keys.{row_length, BusyTable, FullTable, next_full, EarliestFor, RoundTaken};
@@ -6,7 +7,8 @@ ghost use Rattle.transfers.specs.Keys.{row_length, BusyTable, FullTable, next_fu
 // The places of a row, one for each round.
 const ROW: usize = 256;
 
-// The rounds of each end while transfers are placed: where it is busy, and how many from the first on are known to be.
+// The rounds of each end while transfers are placed: where it is busy, and how many from the first
+// on are known to be.
 #[derive(Drop)]
 pub(crate) struct Rounds {
     busy: [u8; 2304],
@@ -22,7 +24,8 @@ fn both_free(source: u8, destination: u8) -> bool
     source == 0 && destination == 0
 }
 
-// How many rounds from the first on are known to be busy once this one is: one more where it is the next one.
+// How many rounds from the first on are known to be busy once this one is: one more where it is the
+// next one.
 fn next_full(full: u64, round: u64) -> u64
     requires { 1 ≤ round }
     ensures { result ≡ next_full full round }
@@ -46,7 +49,8 @@ impl Rounds {
         }
     }
 
-    // The earliest round in which both ends are free, at most the one behind as many as transfers are placed. Rounds known to be busy are passed.
+    // The earliest round in which both ends are free, at most the one behind as many as transfers
+    // are placed. Rounds known to be busy are passed.
     fn earliest(&self, source: usize, destination: usize) -> usize
         requires ends { (source < ends) × (destination < ends) }
         requires placed { self.now.placed ≤ row_length }
@@ -54,17 +58,23 @@ impl Rounds {
         ensures bounds { (1 ≤ result) × (result ≤ self.now.placed + 1) }
     {
         let from = self.full[source].max(self.full[destination]);
+        // The round is the answer and the place in both rows: two zipped rows would be counted too.
         for r in from as usize..self.placed {
-            if both_free(self.busy[source * ROW + r], self.busy[destination * ROW + r]) {
+            if both_free(
+                self.busy[source * ROW + r],
+                self.busy[destination * ROW + r],
+            ) {
                 return r + 1;
             }
         }
         self.placed + 1
     }
 
-    // Makes an end busy in a round, and counts the round as known to be busy where it is the next one.
+    // Makes an end busy in a round, and counts the round as known to be busy where it is the next
+    // one.
     fn make_busy(&mut self, end: usize, round: usize)
-        requires { (end < ends) × (1 ≤ round) × (round ≤ self.old.placed) × (self.old.placed ≤ row_length) }
+        requires { (end < ends) × (1 ≤ round) × (round ≤ self.old.placed)
+            × (self.old.placed ≤ row_length) }
         ensures busy { self.new.busy ≡ set self.old.busy («end» * row_length + («round» - 1)) 1 }
         ensures placed { self.new.placed ≡ self.old.placed }
     {

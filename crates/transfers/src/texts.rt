@@ -19,7 +19,8 @@ use refusal::Refusal;
 // The most disks of a rack whose transfers are found.
 const MOST_TRANSFER_DISKS: usize = 8;
 
-// Puts the keys of a plan's stored copies in front, and answers how many disks it has and how many copies; 0 where the disks are more than 8.
+// Puts the keys of a plan's stored copies in front, and answers how many disks it has and how many
+// copies; 0 where the disks are more than 8.
 fn stored_copies(rack: &[u64], copies: &[u64], counts: &[u32], keys: &mut [u64]) -> (usize, usize)
     requires tables_fit { TablesFit (disks_in rack.now) copies.now counts.now }
     requires rack_value { rack_accepted (disks_in rack.now) ≡ true }
@@ -50,7 +51,8 @@ fn read_stored(
 
 // Judges two racks: 14, then 15. Equal racks have equal first lines and others have not.
 fn judge_racks(old: &[u64], new: &[u64]) -> Result<(), Refusal>
-    requires { (rack_accepted (disks_in old.now) ≡ true) × (rack_accepted (disks_in new.now) ≡ true) }
+    requires { (rack_accepted (disks_in old.now) ≡ true)
+        × (rack_accepted (disks_in new.now) ≡ true) }
     ensures { verdict_of result ≡ racks_judged (disks_in old.now) (disks_in new.now) (given tt) }
 {
     if old.len() > MOST_TRANSFER_DISKS {
@@ -65,7 +67,8 @@ fn judge_racks(old: &[u64], new: &[u64]) -> Result<(), Refusal>
     Ok(())
 }
 
-// Reads both texts, and puts the stored copies of each into keys: the old one's refusals, then the new one's, then 14 and 15.
+// Reads both texts, and puts the stored copies of each into keys: the old one's refusals, then the
+// new one's, then 14 and 15.
 pub(crate) fn read_texts(
     old: &[u8],
     new: &[u8],

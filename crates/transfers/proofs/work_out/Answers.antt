@@ -1,12 +1,10 @@
 -- `transfers::work_out` meets its contract: the texts are refused, or the transfers are those between their stored copies.
-use mathlib.Core.Path.{ap, subst}
 use mathlib.Core.List.{List}
 use Prim.Native.Nat.{ℕ}
 use native.Mathlib.Omega.{arith}
 use lib.ListN.{length-replicate}
 use lib.Seq.{length-take-le}
 use Rattle.transfer_schedule.specs.Transfers.{texts_verdict}
-use Rattle.transfers.specs.Keys.{StoredTexts}
 use Rattle.transfers.proofs.TextsSteps.{BothAs, both_as, olds_fit, news_fit, olds_ordered, news_ordered}
 use Rattle.transfers.proofs.work_out.Goals as goal
 

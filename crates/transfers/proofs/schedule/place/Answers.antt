@@ -12,7 +12,7 @@ use Rattle.transfers.proofs.schedule.place.Goals as goal
 
 pub entry_of-requires : goal.entry_of-requires
 entry_of-requires c =
-    let source_few : c.source_of-source.result ≤ 8 = omega (arith, c.source_of-source.ensures, source_fits (map stored_in c.args.old.now) (c.args.key % 16777216) c.requires.copy_fits.1) in
+    let source_few : c.source_of-source.result ≤ 8 = omega (arith, c.source_of-source.ensures, source_fits (map stored_in c.args.sources.now.old.now) (c.args.key % 16777216) c.requires.copy_fits.1) in
     let film : ℕ = c.args.key % 16777216 in
     record {
       source = omega (arith, source_few);
@@ -23,7 +23,7 @@ entry_of-requires c =
 
 pub take-round-requires : goal.take-round-requires
 take-round-requires c =
-    let source_few : c.source_of-source.result ≤ 8 = omega (arith, c.source_of-source.ensures, source_fits (map stored_in c.args.old.now) (c.args.key % 16777216) c.requires.copy_fits.1) in
+    let source_few : c.source_of-source.result ≤ 8 = omega (arith, c.source_of-source.ensures, source_fits (map stored_in c.args.sources.now.old.now) (c.args.key % 16777216) c.requires.copy_fits.1) in
     record {
       ends = (omega (arith, source_few), omega (arith, c.requires.copy_fits.0.disk));
       placed = c.requires.placed;
@@ -32,7 +32,7 @@ take-round-requires c =
 pub returns : goal.returns
 returns c =
     let film : ℕ = c.args.key % 16777216 in
-    let old : List StoredCopy = map stored_in c.args.old.now in
+    let old : List StoredCopy = map stored_in c.args.sources.now.old.now in
     let disk : ℕ = c.args.key / 16777216 in
     let made : Transfer = transfer c.source_of-source.result disk film c.take-round.result in
     let made_is : (placed : List Transfer) → c.take-round.result ≡ earliest placed c.source_of-source.result disk → made ≡ transfer_for old placed (stored_in c.args.key) = (λ placed first. ap₂ (λ (s r : ℕ). transfer s disk film r) c.source_of-source.ensures (first ∙ ap (λ (s : ℕ). earliest placed s disk) c.source_of-source.ensures)) in

@@ -48,23 +48,23 @@ turn old keys keys' i fit less is =
 
 pub place-entry-requires : goal.place-entry-requires
 place-entry-requires c =
-    let t = turn c.args.old.now c.args.keys.now c.loop-key.keys c.loop-key.key-index c.requires.each.1 c.loop-key-test.true c.loop-key.invariant.keys in
+    let t = turn c.args.sources.now.old.now c.args.keys.now c.loop-key.keys c.loop-key.key-index c.requires.1 c.loop-key-test.true c.loop-key.invariant.keys in
     record {
-      copy_fits = (t.fits, c.requires.each.0, c.requires.search_starts);
-      placed = omega (arith, t.less, c.requires.each.2, c.loop-key.invariant.placed);
+      copy_fits = (t.fits, c.requires.0);
+      placed = omega (arith, t.less, c.requires.2, c.loop-key.invariant.placed);
     }
 
 pub loop-key-preserved : goal.loop-key-preserved
 loop-key-preserved c =
-    let old = c.args.old.now in
+    let old = c.args.sources.now.old.now in
     let keys = c.args.keys.now in
     let i = c.loop-key.key-index in
-    let t = turn old keys c.loop-key.keys i c.requires.each.1 c.loop-key-test.true c.loop-key.invariant.keys in
+    let t = turn old keys c.loop-key.keys i c.requires.1 c.loop-key-test.true c.loop-key.invariant.keys in
     let copies = map stored_in old in
     let copy = stored_in (get_or c.loop-key.keys i 0) in
     let placed = placed_to old keys i in
     let next = c.place-entry.ensures.placed_next placed (t.number ∙ sym c.loop-key.invariant.placed) c.loop-key.invariant.busy in
-    let fits = transfer_fits copies c.requires.each.0 placed copy t.fits (omega (arith, t.number, t.less, c.requires.each.2)) in
+    let fits = transfer_fits copies c.requires.0 placed copy t.fits (omega (arith, t.number, t.less, c.requires.2)) in
     record {
       keys = ap (λ (l : List ℕ). set l i c.place-entry.result) c.loop-key.invariant.keys
           ∙ front_more (map transfer_entry placed) keys i t.long t.less c.place-entry.result

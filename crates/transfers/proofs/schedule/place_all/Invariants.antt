@@ -14,8 +14,8 @@ placed_to old keys i = place_all (map stored_in old) [] (map stored_in (take i k
 
 abbrev pub invariant-loop-key : goal.invariant-loop-key
 invariant-loop-key l = record {
-  keys : l.keys ≡ map transfer_entry (placed_to l.old l.fn.keys l.key-index) ++ drop l.key-index l.fn.keys;
-  busy : BusyTable l.rounds.busy (placed_to l.old l.fn.keys l.key-index);
+  keys : l.keys ≡ map transfer_entry (placed_to l.sources.old.now l.fn.keys l.key-index) ++ drop l.key-index l.fn.keys;
+  busy : BusyTable l.rounds.busy (placed_to l.sources.old.now l.fn.keys l.key-index);
   placed : l.rounds.placed ≡ l.key-index;
-  last : l.last ≡ rounds_of (placed_to l.old l.fn.keys l.key-index);
+  last : l.last ≡ rounds_of (placed_to l.sources.old.now l.fn.keys l.key-index);
 }

@@ -69,7 +69,4 @@ place_all-rounds-requires c =
     let room : n ≤ length keys = omega (arith, c.put_lacking-n.ensures.upper_bound, c.put_lacking-n.auto.keys, c.told-entries, c.requires.news.2) in
     let front_long : length (take n keys) ≡ n = length-take-le n keys room in
     let few : n ≤ 256 = omega (arith, c.put_lacking-n.ensures.upper_bound, c.requires.news.2) in
-    record {
-      each = (c.requires.olds.0, subst (Each CopyFits) (sym c.put_lacking-n.ensures.keys_after) (lacking_each old CopyFits new c.requires.news.0), omega (arith, front_long, few));
-      search_starts = c.note_starts.ensures;
-    }
+    (c.requires.olds.0, subst (Each CopyFits) (sym c.put_lacking-n.ensures.keys_after) (lacking_each old CopyFits new c.requires.news.0), omega (arith, front_long, few))

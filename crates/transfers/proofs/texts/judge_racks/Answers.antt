@@ -8,7 +8,7 @@ use borrow.Author.Tests.{le-leb}
 use lib.Dec.{eqb}
 use lib.ListN.{length}
 use lib.Pointwise.{pointwise}
-use Rattle.refusal.specs.Verdict.{Verdict, given, unless}
+use Rattle.refusal.specs.Verdict.{given, unless}
 use Rattle.placement.specs.Rack.{rack_accepted}
 use Rattle.placement.specs.Packed.{disks_in}
 use Rattle.placement.proofs.PackedRacks.{disks_length}

@@ -1,11 +1,8 @@
 -- `Rounds::earliest` meets its contract: each round before the one that is found is passed.
-use mathlib.Core.Path.{◌≡◌, sym, subst, ◌∙◌}
-use mathlib.Core.Bool.{Bool}
-use mathlib.Core.List.{List}
-use Prim.Native.Nat.{ℕ, suc, ◌≤◌, ◌<◌}
+use mathlib.Core.Path.{sym, subst, ◌∙◌}
+use Prim.Native.Nat.{◌≤◌}
 use native.Mathlib.Omega.{arith}
-use Rattle.transfer_schedule.specs.Schedule.{Transfer, both_free}
-use Rattle.transfers.specs.Keys.{BusyTable, NoneFree}
+use Rattle.transfers.specs.Keys.{NoneFree}
 use Rattle.transfers.proofs.FullRounds.{none_free}
 use Rattle.transfers.proofs.FreeRounds.{places_free, earliest_passed, earliest_found, earliest_next}
 use Rattle.transfers.proofs.rounds.Rounds.earliest.Goals as goal
@@ -25,16 +22,16 @@ pub loop-r-preserved : goal.loop-r-preserved
 loop-r-preserved c =
     let a = c.args in
     λ placed t.
-        let free = places_free a.self.now.busy placed t a.source a.destination c.loop-r.r c.requires.ends.0 c.requires.ends.1
-            (omega (arith, c.loop-r-test.true, c.requires.placed)) in
-        c.loop-r.invariant placed t ∙ earliest_next a.self.now.placed c.loop-r.r c.loop-r-test.true placed a.source a.destination
-        (sym (c.both_free.ensures ∙ free) ∙ c.if-both_free.false)
+    let free = places_free a.self.now.busy placed t a.source a.destination c.loop-r.r c.requires.ends.0 c.requires.ends.1
+    (omega (arith, c.loop-r-test.true, c.requires.placed)) in
+    c.loop-r.invariant placed t ∙ earliest_next a.self.now.placed c.loop-r.r c.loop-r-test.true placed a.source a.destination
+    (sym (c.both_free.ensures ∙ free) ∙ c.if-both_free.false)
 
 pub returns-then-both_free-clause-earliest_for : goal.returns-then-both_free-clause-earliest_for
 returns-then-both_free-clause-earliest_for c =
     let a = c.args in
     λ placed t.
-        let free = places_free a.self.now.busy placed t a.source a.destination c.loop-r.r c.requires.ends.0 c.requires.ends.1
-            (omega (arith, c.loop-r-test.true, c.requires.placed)) in
-        earliest_found a.self.now.placed c.loop-r.r c.loop-r-test.true placed a.source a.destination (sym (c.both_free.ensures ∙ free) ∙ c.if-both_free.true)
-        ∙ sym (c.loop-r.invariant placed t)
+    let free = places_free a.self.now.busy placed t a.source a.destination c.loop-r.r c.requires.ends.0 c.requires.ends.1
+    (omega (arith, c.loop-r-test.true, c.requires.placed)) in
+    earliest_found a.self.now.placed c.loop-r.r c.loop-r-test.true placed a.source a.destination (sym (c.both_free.ensures ∙ free) ∙ c.if-both_free.true)
+    ∙ sym (c.loop-r.invariant placed t)

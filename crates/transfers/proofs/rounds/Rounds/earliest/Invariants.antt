@@ -1,7 +1,7 @@
 -- `Rounds::earliest` meets its contract. The invariant: the earliest of all rounds is the earliest of those from r + 1 on.
 use mathlib.Core.Path.{◌≡◌}
 use mathlib.Core.List.{List}
-use Prim.Native.Nat.{ℕ, suc, ◌-◌, ◌≤◌}
+use Prim.Native.Nat.{ℕ, suc, ◌-◌}
 use Rattle.transfer_schedule.specs.Schedule.{Transfer, earliest_from}
 use Rattle.transfers.specs.Keys.{BusyTable}
 use Rattle.transfers.proofs.rounds.Rounds.earliest.Given as goal

@@ -4,7 +4,7 @@ use mathlib.Core.List.{List, [], ◌∷◌, ◌++◌}
 use Prim.Native.Nat.{ℕ, ◌+◌, ◌-◌, ◌*◌, ◌≤◌}
 use native.Mathlib.Omega.{arith}
 use lib.ListN.{set}
-use Rattle.transfer_schedule.specs.Schedule.{Transfer, transfer, earliest_from}
+use Rattle.transfer_schedule.specs.Schedule.{transfer, earliest_from}
 use Rattle.transfers.specs.Keys.{row_length, BusyTable, FullTable}
 use Rattle.transfers.proofs.Busy.{busy_more}
 use Rattle.transfers.proofs.rounds.Rounds.take.Goals as goal

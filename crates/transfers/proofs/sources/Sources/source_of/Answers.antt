@@ -1,16 +1,11 @@
--- `transfers::source_of` meets its contract: no copy before the start has the film.
-use mathlib.Core.Path.{◌≡◌, sym, ◌∙◌}
-use mathlib.Core.List.{List, map}
-use Prim.Native.Nat.{ℕ, ◌%◌}
-use native.Mathlib.Omega.{arith}
-use lib.ListN.{get_or}
-use Rattle.transfers.specs.Keys.{stored_in, start_places}
+-- `Sources::source_of` meets its contract: no copy before the start has the film.
+use mathlib.Core.Path.{sym, ◌∙◌}
 use Rattle.transfers.proofs.Looks.{source_found, source_later}
 use Rattle.transfers.proofs.Starting.{source_left}
-use Rattle.transfers.proofs.sources.source_of.Goals as goal
+use Rattle.transfers.proofs.sources.Sources.source_of.Goals as goal
 
 pub loop-key-init : goal.loop-key-init
-loop-key-init c = source_left c.args.old.now c.args.film _ _ c.min.ensures (c.requires.none c.args.film)
+loop-key-init c = source_left c.args.self.now.old.now c.args.film _ _ c.min.ensures (c.args.self.now.search_starts c.args.film)
 
 pub returns-then-key-film : goal.returns-then-key-film
 returns-then-key-film c =
