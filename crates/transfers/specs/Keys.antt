@@ -95,12 +95,17 @@ NoneOf-prop : (film : ℕ) (cs : List StoredCopy) → IsProp (NoneOf film cs)
 NoneOf-prop film [] = Unit-prop
 NoneOf-prop film (c ∷ cs) = ×_prop (→_prop (λ a b. absurd a)) (NoneOf-prop film cs)
 
--- Where the search for a film starts, by its remainder: no copy before that place has the film.
-abbrev pub SearchStarts : (starts : List ℕ) → (cs : List StoredCopy) → Type 0
-SearchStarts starts cs = (film : ℕ) → NoneOf film (take (get_or starts (film % start_places) 0) cs)
+-- No copy before the place where the search for a film starts, by its remainder, has the film.
+abbrev pub NoneBefore : (starts : List ℕ) → (cs : List StoredCopy) → Type 0
+NoneBefore starts cs = (film : ℕ) → NoneOf film (take (get_or starts (film % start_places) 0) cs)
 
-pub SearchStarts-prop : (starts : List ℕ) (cs : List StoredCopy) → IsProp (SearchStarts starts cs)
-SearchStarts-prop starts cs = Π_prop (λ film. NoneOf-prop film (take (get_or starts (film % start_places) 0) cs))
+pub NoneBefore-prop : (starts : List ℕ) (cs : List StoredCopy) → IsProp (NoneBefore starts cs)
+NoneBefore-prop starts cs = Π_prop (λ film. NoneOf-prop film (take (get_or starts (film % start_places) 0) cs))
+
+-- Where the search for a film starts, by its remainder: no copy before that place has the film.
+pub record SearchStarts (starts : List ℕ) (cs : List StoredCopy) : Type 0 where
+  pub wide : length starts ≡ start_places
+  pub none : NoneBefore starts cs
 
 -- The keys before a place are below a key, and the one there is not.
 pub record PassedTo (keys : List ℕ) (key at : ℕ) : Type 0 where

@@ -3,7 +3,7 @@
 ghost use Rattle.std.specs.Prelude.{◌≡◌, map, ◌≤◌, length};
 ghost use Rattle.transfer_schedule.specs.Stored.{source_of};
 ghost use Rattle.transfer_schedule.specs.Fits.{most_transfers};
-ghost use Rattle.transfers.specs.Keys.{stored_in, SearchStarts, SearchStarts-prop};
+ghost use Rattle.transfers.specs.Keys.{stored_in, NoneBefore, NoneBefore-prop, SearchStarts};
 
 use crate::stored::DISK;
 
@@ -26,7 +26,7 @@ pub(crate) fn note_starts(old: &[u64], starts: &mut [u16; 4_096])
 pub(crate) struct Sources<'a> {
     pub(crate) old: &'a [u64],
     pub(crate) starts: &'a [u16; 4_096],
-    ghost search_starts: { SearchStarts starts.now (map stored_in old.now) } by { SearchStarts-prop starts.now (map stored_in old.now) },
+    ghost none_before: { NoneBefore starts.now (map stored_in old.now) } by { NoneBefore-prop starts.now (map stored_in old.now) },
 }
 
 impl<'a> Sources<'a> {

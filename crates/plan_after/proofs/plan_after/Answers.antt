@@ -87,7 +87,7 @@ returns-in_err-sums-in-Ok-clause-promise c =
     let called = call (disks_in a.rack.now) a.list.now in
     let lent = tables a.copies.now a.counts.now a.left.now in
     let early = earlier_read a.earlier.now (replicate 64 0) read.rack read.copies read.counts read.left _ c.in-Ok.told (length-replicate {A = ℕ} 64 0) c.new-before.ensures
-        c.read-read.auto.copies c.read-read.auto.counts c.in-Ok.ensures.promise in
+    c.read-read.auto.copies c.read-read.auto.counts c.in-Ok.ensures.promise in
     let p = err_from_is_err_and c.from_residual.result c.from_residual.ensures.1 in
     let after = refused_plan called lent c.in_err-sums-in-Ok.ensures.promise (layout_of early.plan.copies) (number_some _) in
     rw (p.1, p.2) (marked_promise called a.earlier.now lent early.plan early.same after.0 after.1)
@@ -99,7 +99,7 @@ mark_disks-requires c =
     let called = call (disks_in a.rack.now) a.list.now in
     let lent = tables a.copies.now a.counts.now a.left.now in
     let early = earlier_read a.earlier.now (replicate 64 0) read.rack read.copies read.counts read.left _ c.in-Ok.told (length-replicate {A = ℕ} 64 0) c.new-before.ensures
-        c.read-read.auto.copies c.read-read.auto.counts c.in-Ok.ensures.promise in
+    c.read-read.auto.copies c.read-read.auto.counts c.in-Ok.ensures.promise in
     record {
       rack_in_bounds = omega (arith, (plannable called lent (planned_given called lent c.in_ok-sums-in-Ok.ensures.promise refl)).copies, c.plan.auto.copies);
       held_before = early.before;
@@ -112,9 +112,9 @@ returns-in_ok-sums-in-Ok-clause-promise c =
     let called = call (disks_in a.rack.now) a.list.now in
     let lent = tables a.copies.now a.counts.now a.left.now in
     let early = earlier_read a.earlier.now (replicate 64 0) read.rack read.copies read.counts read.left _ c.in-Ok.told (length-replicate {A = ℕ} 64 0) c.new-before.ensures
-        c.read-read.auto.copies c.read-read.auto.counts c.in-Ok.ensures.promise in
+    c.read-read.auto.copies c.read-read.auto.counts c.in-Ok.ensures.promise in
     let films : Each NoneUnused (layout_of early.plan.copies) = subst (λ (l : List (List Copy)). Each NoneUnused (layout_of l)) early.held early.before.films in
     let after = marked_plan_lem called lent c.in_ok-sums-in-Ok.ensures.promise (layout_of early.plan.copies) films refl
-        (c.mark_disks.ensures
-        ∙ ap (λ (l : List (List Copy)). written (marked_places (disks_in a.rack.now) c.plan.new.copies (layout_of l)) c.plan.new.copies) early.held) in
+    (c.mark_disks.ensures
+    ∙ ap (λ (l : List (List Copy)). written (marked_places (disks_in a.rack.now) c.plan.new.copies (layout_of l)) c.plan.new.copies) early.held) in
     marked_promise called a.earlier.now lent early.plan early.same after.0 after.1

@@ -5,7 +5,7 @@ use Rattle.transfers.proofs.Starting.{source_left}
 use Rattle.transfers.proofs.sources.Sources.source_of.Goals as goal
 
 pub loop-key-init : goal.loop-key-init
-loop-key-init c = source_left c.args.self.now.old.now c.args.film _ _ c.min.ensures (c.args.self.now.search_starts c.args.film)
+loop-key-init c = source_left c.args.self.now.old.now c.args.film _ _ c.min.ensures (c.args.self.now.none_before c.args.film)
 
 pub returns-then-key-film : goal.returns-then-key-film
 returns-then-key-film c =
