@@ -1,4 +1,5 @@
-// The C library as Rattle calls it: numbers and slices in, structs of numbers out. `jugfjord_c` exports each function to C.
+// The C library as Rattle calls it: numbers and slices in, structs of numbers out. `jugfjord_c`
+// exports each function to C.
 #![tactic(auto)]
 
 mod planning;
