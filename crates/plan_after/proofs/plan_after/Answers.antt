@@ -16,7 +16,7 @@ use Rattle.placement.specs.Packed.{disks_in}
 use Rattle.placement.specs.Tables.{Tables, tables, own_tables, written}
 use Rattle.placement.specs.Plan.{Plan}
 use Rattle.placement.specs.Held.{marked_from}
-use Rattle.placement.specs.Planning.{Call, call}
+use Rattle.placement.specs.Planning.{call}
 use Rattle.placement.proofs.PackedRacks.{disks_length}
 use Rattle.plan_text.specs.ReadCall.{text_verdict}
 use Rattle.planner.proofs.Fulfilled.{plannable}

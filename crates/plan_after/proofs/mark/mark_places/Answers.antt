@@ -1,8 +1,6 @@
 -- `plan_after::mark_places` meets its contract: each place is marked as its entry was at first.
 use mathlib.Core.Path.{ap, ◌∙◌}
 use Rattle.std.proofs.Common.{rules}
-use mathlib.Core.List.{List}
-use Prim.Native.Nat.{ℕ}
 use lib.ListN.{set, get_or}
 use Rattle.std.proofs.lemmas.List.Edits.{map_over_more}
 use Rattle.plan_after.proofs.mark.mark_places.Invariants.{marks}
