@@ -27,6 +27,8 @@ use refusal::Refusal;
 
 // Reads a text: its plan is stored in the lent list of packed disks and the lent tables, or a
 // refusal changes none of them. (`LentTables` stands inside: this signature is public.)
+// A function of its own in the compiled code: where planning follows, the places of its plan are gone.
+#[inline(never)]
 pub fn read(
     text: &[u8],
     rack: &mut [u64],
