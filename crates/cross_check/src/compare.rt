@@ -1,15 +1,16 @@
 // One case on both planners, with every place of every table and every number of the answers
 // compared.
 use crate::case::Case;
+use crate::full::Full;
 use crate::lend::lengths_of;
 use crate::list::list_of;
 use crate::plain::{Call, Disk, Planned, Refused, Sums, plan, total};
-use crate::rack::rack_of;
+use crate::rack::{MOST_DISKS, rack_of};
 use crate::tables::Tables;
+use arrayvec::ArrayVec;
 use placement::{Slots, Streams, disk_of};
 use planner::PlanSums;
 use refusal::Refusal;
-use std::alloc::{AllocError, Global};
 
 // A planner's sums or refusal, and the tables after it.
 #[derive(Clone, Copy, PartialEq, Eq)]
@@ -49,11 +50,10 @@ impl From<Refusal> for Refused {
 }
 
 // What the proved planner answers on the lent parts of the tables.
-fn proved_answer(alloc: Global, call: &Call) -> Result<Answer, AllocError> {
+fn proved_answer(call: &Call) -> Result<Answer, Full> {
     let disks = call.rack.iter();
-    let rack: Vec<u64> = disks
-        .map(|disk| disk_of(Slots(disk.slots), Streams(disk.load)))
-        .collect(alloc)?;
+    let mut rack = ArrayVec::<u64, MOST_DISKS>::new();
+    rack.extend(disks.map(|disk| disk_of(Slots(disk.slots), Streams(disk.load))))?;
     let mut tables = Tables::unused();
     let copies = call.lent.copies.min(tables.copies.len());
     let counts = call.lent.counts.min(tables.counts.len());
@@ -91,20 +91,20 @@ fn is_mixed(rack: &[Disk]) -> bool {
 }
 
 // Runs both planners on a case.
-pub(crate) fn compare(alloc: Global, case: &Case) -> Result<Compared, AllocError> {
-    let rack = rack_of(alloc, case)?;
-    let list = list_of(alloc, case)?;
+pub(crate) fn compare(case: &Case) -> Result<Compared, Full> {
+    let rack = rack_of(case)?;
+    let list = list_of(case)?;
     let call = Call {
         rack: &rack,
         list: &list,
         lent: lengths_of(case, &rack),
     };
-    let plain = plan(alloc, &call)?;
+    let plain = plan(&call)?;
     let answer = plain_answer(&plain);
     Ok(Compared {
         sums: answer.sums,
         copies: plain.map_or(0, |plan| total(&plan.counts, |count| *count)),
         is_mixed: is_mixed(&rack),
-        is_same: proved_answer(alloc, &call)? == answer,
+        is_same: proved_answer(&call)? == answer,
     })
 }

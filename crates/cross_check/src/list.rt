@@ -2,7 +2,11 @@
 use crate::case::Case;
 use crate::draw::{draw, from_to, shuffled};
 use crate::fault::Fault;
-use std::alloc::{AllocError, Global};
+use crate::full::Full;
+use arrayvec::ArrayVec;
+
+// The bytes of a list: at most 1,029 records and 7 odd bytes.
+pub(crate) type List = ArrayVec<u8, 8_239>;
 
 // The film number of record i before faults, no two alike below 1,100: upwards from a start,
 // downwards from 49,999, or shuffled.
@@ -81,12 +85,12 @@ fn demand_of(case: &Case, i: u32) -> u32 {
 }
 
 // The bytes of a case: its records, and the bytes behind them.
-pub(crate) fn list_of(alloc: Global, case: &Case) -> Result<Vec<u8>, AllocError> {
-    let mut list = Vec::new(alloc);
+pub(crate) fn list_of(case: &Case) -> Result<List, Full> {
+    let mut list = List::new();
     for i in 0..case.records {
-        list.extend_from_slice(&film_of(case, i).to_le_bytes())?;
-        list.extend_from_slice(&demand_of(case, i).to_le_bytes())?;
+        list.try_extend_from_slice(&film_of(case, i).to_le_bytes())?;
+        list.try_extend_from_slice(&demand_of(case, i).to_le_bytes())?;
     }
-    list.extend_from_slice(&[0; 7][..case.odd_bytes.min(7)])?;
+    list.try_extend_from_slice(&[0; 7][..case.odd_bytes.min(7)])?;
     Ok(list)
 }

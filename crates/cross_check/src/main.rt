@@ -6,6 +6,7 @@ mod case;
 mod compare;
 mod draw;
 mod fault;
+mod full;
 mod lend;
 mod list;
 mod plain;
@@ -14,7 +15,7 @@ mod tables;
 
 use case::case_of;
 use compare::{Compared, compare};
-use std::alloc::{AllocError, Global};
+use full::Full;
 use std::{fmt, io};
 
 // How many cases are run.
@@ -68,16 +69,16 @@ impl fmt::Display for Tally {
 }
 
 // Runs so many cases.
-fn run_cases(alloc: Global, cases: u64) -> Result<Tally, AllocError> {
+fn run_cases(cases: u64) -> Result<Tally, Full> {
     let mut tally = Tally::default();
     for number in 0..cases {
-        tally.count(&compare(alloc, &case_of(number))?);
+        tally.count(&compare(&case_of(number))?);
     }
     Ok(tally)
 }
 
 // Runs all cases and writes the tally.
 fn main(rt: HostRuntime) -> io::Result<()> {
-    let tally = run_cases(rt.alloc(), CASES)?;
+    let tally = run_cases(CASES)?;
     println!(rt; "{tally}")
 }

@@ -8,21 +8,23 @@ mod records;
 mod refusals;
 mod shelf;
 
+use crate::full::Full;
+use arrayvec::ArrayVec;
 use filling::{FilledDisk, fill_disks};
-use records::records_of;
+use records::{Records, records_of};
 use refusals::judge;
 use shelf::shelve_films;
-use std::alloc::{AllocError, Global};
+use std::iter::repeat_n;
 
 // A disk of a rack.
-#[derive(Clone, Copy, Debug, PartialEq, Eq)]
+#[derive(Clone, Copy, Debug, Default, PartialEq, Eq)]
 pub(crate) struct Disk {
     pub(crate) slots: u32,
     pub(crate) load: u32,
 }
 
 // A record, a copy or a left film: the film, and how many viewers want it, get it or are left.
-#[derive(Clone, Copy, Debug, PartialEq, Eq)]
+#[derive(Clone, Copy, Debug, Default, PartialEq, Eq)]
 pub(crate) struct Entry {
     pub(crate) film: u32,
     pub(crate) viewers: u32,
@@ -63,13 +65,22 @@ pub(crate) struct Sums {
     pub(crate) left: u64,
 }
 
+// The most disks of a rack that is planned, and the most slots of all of them.
+const MOST_DISKS: usize = 64;
+
+const MOST_SLOTS: usize = 2_048;
+
+type CopyTable = ArrayVec<Entry, MOST_SLOTS>;
+
+type CountTable = ArrayVec<u32, MOST_DISKS>;
+
 // A plan: its sums, and what it writes into the first places of each table.
 #[derive(Debug, Drop)]
 pub(crate) struct Planned {
     pub(crate) sums: Sums,
-    pub(crate) copies: Vec<Entry>,
-    pub(crate) counts: Vec<u32>,
-    pub(crate) left: Vec<Entry>,
+    pub(crate) copies: CopyTable,
+    pub(crate) counts: CountTable,
+    pub(crate) left: Records,
 }
 
 // The sum of a number of each item.
@@ -89,54 +100,56 @@ pub(crate) fn all_slots(rack: &[Disk]) -> usize {
 }
 
 // Plans a call, or refuses it.
-pub(crate) fn plan(alloc: Global, call: &Call) -> Result<Result<Planned, Refused>, AllocError> {
-    let records = records_of(alloc, call.list)?;
+pub(crate) fn plan(call: &Call) -> Result<Result<Planned, Refused>, Full> {
+    let records = records_of(call.list)?;
     match judge(call, &records) {
-        Ok(()) => Ok(Ok(plan_records(alloc, call.rack, records)?)),
+        Ok(()) => Ok(Ok(plan_records(call.rack, records)?)),
         Err(refused) => Ok(Err(refused)),
     }
 }
 
 // Plans records that are not refused.
-fn plan_records(
-    alloc: Global,
-    rack: &[Disk],
-    mut records: Vec<Entry>,
-) -> Result<Planned, AllocError> {
+fn plan_records(rack: &[Disk], mut records: Records) -> Result<Planned, Full> {
     let left_places = records.len();
-    let mut disks = fill_disks(alloc, rack, &mut records)?;
-    shelve_films(alloc, &mut disks, &mut records)?;
+    let mut disks = fill_disks(rack, &mut records)?;
+    shelve_films(&mut disks, &mut records)?;
     records.sort_unstable_by_key(|record| record.film);
-    let copies = copy_table(alloc, &disks)?;
+    let copies = copy_table(&disks)?;
     let sums = Sums {
         served: total(&copies, |copy| copy.viewers),
         unserved: total(&records, |record| record.viewers),
         left: records.len() as u64,
     };
-    records.resize(left_places, EMPTY)?;
+    fill_up(&mut records, left_places)?;
     Ok(Planned {
         sums,
         copies,
-        counts: count_table(alloc, &disks)?,
+        counts: count_table(&disks)?,
         left: records,
     })
 }
 
 // How many copies each disk has.
-fn count_table(alloc: Global, disks: &[FilledDisk]) -> Result<Vec<u32>, AllocError> {
-    disks
-        .iter()
-        .map(|filled| u32::try_from(filled.copies.len()).unwrap_or(u32::MAX))
-        .collect(alloc)
+fn count_table(disks: &[FilledDisk]) -> Result<CountTable, Full> {
+    let counts = disks.iter().map(|filled| filled.copies.len());
+    let mut table = CountTable::new();
+    table.extend(counts.map(|count| u32::try_from(count).unwrap_or(u32::MAX)))?;
+    Ok(table)
+}
+
+// Appends empty places to a table that is shorter than `len`.
+fn fill_up<const N: usize>(table: &mut ArrayVec<Entry, N>, len: usize) -> Result<(), Full> {
+    table.extend(repeat_n(EMPTY, len.saturating_sub(table.len())))?;
+    Ok(())
 }
 
 // The copies disk by disk, with empty places for the slots that are free.
-fn copy_table(alloc: Global, disks: &[FilledDisk]) -> Result<Vec<Entry>, AllocError> {
-    let mut table = Vec::new(alloc);
+fn copy_table(disks: &[FilledDisk]) -> Result<CopyTable, Full> {
+    let mut table = CopyTable::new();
     for filled in disks {
         let end = table.len().saturating_add(filled.disk.slots as usize);
-        table.extend_from_slice(&filled.copies)?;
-        table.resize(end, EMPTY)?;
+        table.try_extend_from_slice(&filled.copies)?;
+        fill_up(&mut table, end)?;
     }
     Ok(table)
 }

@@ -2,8 +2,14 @@
 use crate::case::Case;
 use crate::draw::{draw, from_to};
 use crate::fault::Fault;
+use crate::full::Full;
 use crate::plain::Disk;
-use std::alloc::{AllocError, Global};
+use arrayvec::ArrayVec;
+
+// The most disks of a case, one more than a rack may have.
+pub(crate) const MOST_DISKS: usize = 65;
+
+pub(crate) type Rack = ArrayVec<Disk, MOST_DISKS>;
 
 // The disk that has a fault: the first, the last or any.
 fn faulty_disk(case: &Case, place: u64) -> u32 {
@@ -47,6 +53,8 @@ fn disk(case: &Case, i: u32) -> Disk {
 }
 
 // The disks of a case.
-pub(crate) fn rack_of(alloc: Global, case: &Case) -> Result<Vec<Disk>, AllocError> {
-    (0..case.disks).map(|i| disk(case, i)).collect(alloc)
+pub(crate) fn rack_of(case: &Case) -> Result<Rack, Full> {
+    let mut rack = Rack::new();
+    rack.extend((0..case.disks).map(|i| disk(case, i)))?;
+    Ok(rack)
 }

@@ -1,15 +1,28 @@
 // Filling the disks one after the other, the small ones first.
-use crate::plain::{Disk, Entry, total};
-use std::alloc::{AllocError, Global};
+use crate::full::Full;
+use crate::plain::records::Records;
+use crate::plain::{Disk, Entry, MOST_DISKS, total};
+use arrayvec::ArrayVec;
 
-// A disk, and the copies on it.
-#[derive(Debug, Drop)]
+// A disk, and the copies on it, at most one for each of 32 slots.
+#[derive(Debug, Default, Drop)]
 pub(crate) struct FilledDisk {
     pub(crate) disk: Disk,
-    pub(crate) copies: Vec<Entry>,
+    pub(crate) copies: ArrayVec<Entry, 32>,
 }
 
+// The disks of a rack in its order.
+pub(crate) type FilledRack = ArrayVec<FilledDisk, MOST_DISKS>;
+
 impl FilledDisk {
+    // A disk without copies.
+    fn empty(disk: &Disk) -> FilledDisk {
+        FilledDisk {
+            disk: *disk,
+            copies: ArrayVec::new(),
+        }
+    }
+
     // Whether it has fewer copies than slots.
     pub(crate) fn has_free_slot(&self) -> bool {
         self.copies.len() < self.disk.slots as usize
@@ -17,9 +30,9 @@ impl FilledDisk {
 }
 
 // The list of a disk: the records with a demand, by demand and then film.
-fn list_of(alloc: Global, records: &[Entry]) -> Result<Vec<Entry>, AllocError> {
-    let wanted = records.iter().copied().filter(|record| record.viewers > 0);
-    let mut list: Vec<Entry> = wanted.collect(alloc)?;
+fn list_of(records: &[Entry]) -> Result<Records, Full> {
+    let mut list = Records::new();
+    list.extend(records.iter().copied().filter(|record| record.viewers > 0))?;
     list.sort_unstable_by_key(|record| (record.viewers, record.film));
     Ok(list)
 }
@@ -41,10 +54,10 @@ fn window_of<'a>(list: &'a [Entry], disk: &Disk) -> &'a [Entry] {
 // nothing is left leaves the records.
 pub(crate) fn store(
     filled: &mut FilledDisk,
-    records: &mut Vec<Entry>,
+    records: &mut Records,
     copy: Entry,
-) -> Result<(), AllocError> {
-    filled.copies.push(copy)?;
+) -> Result<(), Full> {
+    filled.copies.try_push(copy)?;
     for record in records.iter_mut() {
         if record.film == copy.film {
             record.viewers = record.viewers.saturating_sub(copy.viewers);
@@ -56,12 +69,8 @@ pub(crate) fn store(
 
 // Fills a disk from its window: each film gets its viewers, the last one only as many as the load
 // has left.
-fn fill(
-    alloc: Global,
-    filled: &mut FilledDisk,
-    records: &mut Vec<Entry>,
-) -> Result<(), AllocError> {
-    let list = list_of(alloc, records)?;
+fn fill(filled: &mut FilledDisk, records: &mut Records) -> Result<(), Full> {
+    let list = list_of(records)?;
     let mut load_left = filled.disk.load;
     for record in window_of(&list, &filled.disk) {
         let viewers = record.viewers.min(load_left);
@@ -72,22 +81,13 @@ fn fill(
 }
 
 // Fills the disks of a rack by ascending slots, and those of as many slots by number.
-pub(crate) fn fill_disks(
-    alloc: Global,
-    rack: &[Disk],
-    records: &mut Vec<Entry>,
-) -> Result<Vec<FilledDisk>, AllocError> {
-    let mut disks = Vec::new(alloc);
-    for disk in rack {
-        disks.push(FilledDisk {
-            disk: *disk,
-            copies: Vec::new(alloc),
-        })?;
-    }
+pub(crate) fn fill_disks(rack: &[Disk], records: &mut Records) -> Result<FilledRack, Full> {
+    let mut disks = FilledRack::new();
+    disks.extend(rack.iter().map(FilledDisk::empty))?;
     for slots in 1..=32 {
         for filled in disks.iter_mut() {
             if filled.disk.slots == slots {
-                fill(alloc, filled, records)?;
+                fill(filled, records)?;
             }
         }
     }

@@ -1,6 +1,10 @@
 // The records of a list.
+use crate::full::Full;
 use crate::plain::Entry;
-use std::alloc::{AllocError, Global};
+use arrayvec::ArrayVec;
+
+// The records of a list: up to five more than a list may have.
+pub(crate) type Records = ArrayVec<Entry, 1_029>;
 
 // The record in eight bytes: film and demand, each least significant byte first.
 fn record(bytes: &[u8]) -> Option<Entry> {
@@ -13,6 +17,8 @@ fn record(bytes: &[u8]) -> Option<Entry> {
 }
 
 // The records of a list in the order of the file.
-pub(crate) fn records_of(alloc: Global, list: &[u8]) -> Result<Vec<Entry>, AllocError> {
-    list.chunks_exact(8).filter_map(record).collect(alloc)
+pub(crate) fn records_of(list: &[u8]) -> Result<Records, Full> {
+    let mut records = Records::new();
+    records.extend(list.chunks_exact(8).filter_map(record))?;
+    Ok(records)
 }
