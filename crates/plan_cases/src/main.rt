@@ -8,23 +8,24 @@ use std::rt::Files;
 use std::{fs, io, str};
 
 // The bytes that are read of a file, or of the list of names.
-const SHORT: u64 = 1_024;
+const SHORT: usize = 1_024;
 
-// Reads a file up to a limit. A missing file is said so and has no bytes, and a name that is no text is one of a missing file.
-fn read_file(
-    rt: &(impl Files + Print + AllocGlobal),
+// Reads as much of a file as the space holds. A missing file is said so and has no bytes, and a
+// name that is no text is one of a missing file.
+fn read_file<'a>(
+    rt: &(impl Files + Print),
     name: &[u8],
-    limit: u64,
-) -> io::Result<Vec<u8>> {
-    let mut bytes = Vec::new(rt.alloc());
+    space: &'a mut [u8],
+) -> io::Result<&'a [u8]> {
     if let Ok(name) = str::from_utf8(name) {
         if let Ok(file) = fs::open(rt, name) {
-            file.take(limit).read_to_end(&mut bytes)?;
-            return Ok(bytes);
+            let most = space.len();
+            let read = io::copy(&mut file.take(most as u64), &mut &mut *space)?;
+            return Ok(&space[..most.min(read as usize)]);
         }
     }
     println!(rt; "no such file")?;
-    Ok(bytes)
+    Ok(&[])
 }
 
 // Prints what `plan` prints for an input, in space for the longest output.
@@ -35,15 +36,16 @@ fn show(rt: &impl Print, input: &[u8]) -> io::Result<()> {
 }
 
 // Prints the name of the file and the output for it.
-fn run_file(rt: &(impl Files + Print + AllocGlobal), name: &[u8]) -> io::Result<()> {
-    let input = read_file(rt, name, SHORT)?;
+fn run_file(rt: &(impl Files + Print), name: &[u8]) -> io::Result<()> {
+    let mut space = [0u8; SHORT];
+    let input = read_file(rt, name, &mut space)?;
     rt.write_all(name)?;
     println!(rt)?;
-    show(rt, &input)
+    show(rt, input)
 }
 
 // Runs the files that are listed, a name a line.
-fn run_names(rt: &(impl Files + Print + AllocGlobal), names: &[u8]) -> io::Result<()> {
+fn run_names(rt: &(impl Files + Print), names: &[u8]) -> io::Result<()> {
     for line in names.split_inclusive(|byte| *byte == b'\n') {
         if let Some(name) = line.strip_suffix(b"\n") {
             run_file(rt, name)?;
@@ -53,19 +55,20 @@ fn run_names(rt: &(impl Files + Print + AllocGlobal), names: &[u8]) -> io::Resul
 }
 
 // Prints the label of a long input, and the output for the part of it that is kept, counted in two halves.
-fn run_long(rt: &(impl Files + Print + AllocGlobal), length: usize) -> io::Result<()> {
-    let mut input = read_file(rt, b"long", MOST_KEPT as u64)?;
+fn run_long(rt: &(impl Files + Print), length: usize) -> io::Result<()> {
+    let mut input = [0u8; MOST_KEPT];
+    read_file(rt, b"long", &mut input)?;
     let half = length / 2;
     let kept = keep(keep(0, half), length - half);
-    input.resize(kept, 0)?;
     println!(rt; "long {length}")?;
-    show(rt, &input)
+    show(rt, &input[..kept])
 }
 
 // Runs the files, then 1,024 records, 1,025 with and without odd bytes, and of 1,026 records and of 1 MiB what is kept.
 fn main(rt: HostRuntime) -> io::Result<()> {
-    let names = read_file(&rt, b"names", SHORT)?;
-    run_names(&rt, &names)?;
+    let mut space = [0u8; SHORT];
+    let names = read_file(&rt, b"names", &mut space)?;
+    run_names(&rt, names)?;
     for length in [8_204, 8_212, 8_215, 8_220, 8_223, 1_048_576, 1_048_588] {
         run_long(&rt, length)?;
     }

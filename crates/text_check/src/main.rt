@@ -18,27 +18,29 @@ use std::rt::Files;
 use std::{fs, io, iter};
 
 // The bytes that are read of a file of cases.
-const FILE: u64 = 131_072;
+const FILE: usize = 131_072;
 
-// Reads a file of cases: no bytes of a missing one.
-fn read_file(rt: &(impl Files + AllocGlobal), name: &str) -> io::Result<Vec<u8>> {
-    let mut bytes = Vec::new(rt.alloc());
-    if let Ok(file) = fs::open(rt, name) {
-        file.take(FILE).read_to_end(&mut bytes)?;
-    }
-    Ok(bytes)
+// Reads as much of a file of cases as the space holds: no bytes of a missing one.
+fn read_file<'a>(rt: &impl Files, name: &str, space: &'a mut [u8]) -> io::Result<&'a [u8]> {
+    let Ok(file) = fs::open(rt, name) else {
+        return Ok(&[]);
+    };
+    let most = space.len();
+    let read = io::copy(&mut file.take(most as u64), &mut &mut *space)?;
+    Ok(&space[..most.min(read as usize)])
 }
 
 // Runs the cases of a file, behind the label of each.
-fn run_file<R: Files + Print + AllocGlobal, F: Fn(Case<'_>) -> io::Result<()>>(
+fn run_file<R: Files + Print, F: Fn(Case<'_>) -> io::Result<()>>(
     rt: &R,
     name: &str,
     run: F,
 ) -> io::Result<()>
     requires { F.IsAlwaysCallable run }
 {
-    let file = read_file(rt, name)?;
-    let cases = iter::successors(Case::at(&file, 0), |case| Case::at(&file, case.next));
+    let mut space = [0u8; FILE];
+    let file = read_file(rt, name, &mut space)?;
+    let cases = iter::successors(Case::at(file, 0), |case| Case::at(file, case.next));
     for case in cases.take(file.len()) {
         rt.write_all(case.label)?;
         run(case)?;
