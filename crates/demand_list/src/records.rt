@@ -14,9 +14,9 @@ pub(crate) fn judge_records(list: &[u8]) -> Result<(), Refusal>
     requires { length list.now / 8 ≤ most_records }
     ensures { verdict_of result ≡ records_judged list.now (given tt) }
 {
-    // A place for every number of 16 bits: memory is fixed, and a film is found in one step.
+    // Kept: a place for every number of 16 bits, since memory is fixed and a list has no order of films.
     let mut seen = [false; 65536];
-    // By number, as the definition has it: record i stands at place 8 i, and a refusal names i + 1.
+    // Kept: the definitions say that record i stands at place 8 i, and a refusal names i + 1.
     for i in 0..list.len() / 8 {
         let film = number32(list, 8 * i);
         let demand = number32(list, 8 * i + 4);

@@ -19,7 +19,7 @@ pub struct DiskEntry {
 }
 
 // Disks as numbers: the first `count` of `disks`. What they hold is all that a packed rack says; no function looks further.
-// No ArrayVec: `held_count` and `unpack` answer for counts above 65 too, which it excludes.
+// Kept: `held_count` and `unpack` answer for counts above 65 too, which an ArrayVec excludes.
 #[derive(Clone, Copy, Debug)]
 pub struct PackedDisks {
     pub count: usize,

@@ -45,7 +45,7 @@ impl From<Result<PlanSums, Refusal>> for Planned {
     }
 }
 
-// (a) Three functions, and the tables as slices: C calls each by its name and lends them so, and
+// Kept: three functions, and the tables as slices: C calls each by its name and lends them so, and
 // each keeps a promise of its own.
 
 // `planner::plan` with lent entries.

@@ -23,7 +23,7 @@ fn in_ranges(disk: u64) -> bool
 }
 
 // Whether every disk is in its ranges.
-// Like two functions of well_formed, but each is this one line over a test of its own.
+// Kept: like two functions of well_formed, but each is this one line over a test of its own.
 fn all_in_range(rack: &[u64]) -> bool
     ensures { result ≡ all_in_range (disks_in rack.now) }
 {

@@ -15,7 +15,8 @@ pub(crate) struct Reading {
     // How many bytes stand for all that came.
     pub(crate) kept: usize,
     // What the last read answered: how many bytes came, 0 at the end of the input. A failure stands
-    // here too, though each method hands it on: (a) `RunPromise` and `OneRead` name the answer.
+    // here too, though each method hands it on.
+    // Kept: `RunPromise` and `OneRead` name the last answer.
     pub(crate) last: io::Result<usize>,
     // How many chunks may still be read.
     pub(crate) turns: u64,
@@ -51,8 +52,9 @@ impl Reading {
     }
 
     // Reads once, counts what came and notes the answer. More may come, and the space has room for
-    // what is kept of it. (d) `more` stands at each method that reads, since a read may end it: a
-    // type that said it would be another after each read.
+    // what is kept of it.
+    // Kept: `more` stands at each method that reads, since a read may end it: a type that said it
+    // would be another after each read.
     fn read_next<R: Read>(&mut self, reader: &mut R, space: &mut [u8]) -> io::Result<()>
         requires more { goes_on (answer_number self.old.last) ≡ true }
         requires space_not_empty { 1 ≤ length space.old }
@@ -99,7 +101,7 @@ impl Reading {
         ensures failed { OnErr result (answer_number self.new.last ≡ negsuc 0) }
         ensures turns { self.new.turns ≡ self.old.turns }
     {
-        // (d) how far a turn goes is for the reader to say, so that no range counts it
+        // Kept: how far a turn goes is for the reader to say, so that no range counts it.
         while self.kept < space.len() {
             self.read_behind(reader, space)?;
             if !self.goes_on() {
@@ -134,7 +136,7 @@ impl Reading {
         ensures failed { OnErr result (answer_number self.new.last ≡ negsuc 0) }
     {
         let mut chunk = [0u8; 65_536];
-        // (a) `Settled` names the turns that are left
+        // Kept: `Settled` names the turns that are left.
         while self.turns > 0 {
             self.read_chunk(reader, &mut chunk)?;
             if !self.goes_on() {

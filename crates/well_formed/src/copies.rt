@@ -17,7 +17,7 @@ fn copy_accepted(copy: u64) -> bool
 }
 
 // Whether every copy is accepted.
-// Like all_in_range of placement and the test of left films, but one line over a test of its own.
+// Kept: like all_in_range of placement, but one line over a test of its own.
 fn every_copy_accepted(copies: &[u64]) -> bool
     ensures { result ≡ every copy_accepted (map unmarked (copies_in copies.now)) }
 {

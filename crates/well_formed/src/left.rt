@@ -16,7 +16,7 @@ fn left_film_accepted(left: u64) -> bool
 }
 
 // Whether every left film is accepted.
-// Like all_in_range of placement and the test of copies, but one line over a test of its own.
+// Kept: like all_in_range of placement, but one line over a test of its own.
 fn every_left_film_accepted(left: &[u64]) -> bool
     ensures { result ≡ every left_film_accepted (map item_in left.now) }
 {
