@@ -14,7 +14,7 @@ pub(crate) fn judge_records(list: &[u8]) -> Result<(), Refusal>
     requires { length list.now / 8 ≤ most_records }
     ensures { verdict_of result ≡ records_judged list.now (given tt) }
 {
-    // Kept: a place for every number of 16 bits, since memory is fixed and a list has no order of films.
+    // Kept: a place for every number of 16 bits, since memory is fixed and films come in any order.
     let mut seen = [false; 65536];
     // Kept: the definitions say that record i stands at place 8 i, and a refusal names i + 1.
     for i in 0..list.len() / 8 {

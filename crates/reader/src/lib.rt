@@ -26,8 +26,9 @@ use plan::OwnPlan;
 use refusal::Refusal;
 
 // Reads a text: its plan is stored in the lent list of packed disks and the lent tables, or a
-// refusal changes none of them. (`LentTables` stands inside: this signature is public.)
-// A function of its own in the compiled code: where planning follows, the places of its plan are gone.
+// refusal changes none of them.
+// Kept: four slices beside the text, since this signature is public; inside stands `LentTables`.
+// A function of its own in the compiled code, so that its arrays are gone where planning follows.
 #[inline(never)]
 pub fn read(
     text: &[u8],

@@ -51,7 +51,3 @@ refusal_of r = refused (number_of r) (second_of r)
 abbrev pub verdict_of : {A : Type 0} → Result A Refusal → Verdict A
 verdict_of (Ok a) = given a
 verdict_of (Err r) = refusal_of r
-
--- A judgement, which has no value, as a verdict.
-abbrev pub judged : Result (Unit {0}) Refusal → Verdict (Unit {0})
-judged j = verdict_of j

@@ -9,6 +9,7 @@ fn digits(number: u64) -> usize
 {
     let mut count = 1usize;
     let mut front = number;
+    // Kept: no range says how often a number can be divided.
     while front >= 10 {
         front /= 10;
         count += 1;
