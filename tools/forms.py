@@ -12,7 +12,7 @@ import re
 import subprocess
 import sys
 
-HEAD = re.compile(r'^([ \t]*)(?:pub(?:\([a-z]+\))? )?(?:extern "C" )?fn (\w+)(?:<[^(]*>)?\(', re.M)
+HEAD = re.compile(r'^([ \t]*)(?:pub(?:\([a-z]+\))? )?(?:extern "C" )?fn (\w+)', re.M)
 KEPT = set('if else while for in let mut match return loop as true false self Self Some None Ok Err '
            'break continue len iter min max'.split())
 
@@ -57,8 +57,11 @@ class Function:
     def __init__(self, path, text, m):
         self.path, self.name = path, m.group(2)
         self.line = text.count('\n', 0, m.start(2)) + 1
-        end = closing(text, m.end(), '(', ')')
-        self.params = parts(text[m.end():end - 1])
+        at = m.end()
+        if text[at] == '<':
+            at = closing(text.replace('->', '--'), at + 1, '<', '>')
+        end = closing(text, at + 1, '(', ')')
+        self.params = parts(text[at + 1:end - 1])
         self.requires, at = [], end
         while True:
             brace, semi = text.find('{', at), text.find(';', at)

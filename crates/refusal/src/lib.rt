@@ -29,7 +29,7 @@ pub enum Refusal {
     TerminalTooSmall,
 }
 
-// As the programs print it: the number, and the second number where the documents name one.
+// As text_check prints it: the number, and the second number where the documents name one.
 impl fmt::Display for Refusal {
     fn fmt<W: fmt::Write>(&self, f: &mut fmt::Formatter<W>) -> fmt::Result {
         write!(f, "refused {}", number(*self))?;
