@@ -2,11 +2,11 @@
 use mathlib.Core.Path.{◌≡◌, refl, sym, ap, ◌∙◌}
 use mathlib.Core.Bool.{true, ◌&&◌}
 use mathlib.Core.List.{List, [], ◌∷◌, map}
-use Prim.Native.Nat.{ℕ, suc, ◌≤◌}
+use Prim.Native.Nat.{ℕ, zero, suc, ◌≤◌, ◌<◌}
 use native.Mathlib.Omega.{arith}
 use borrow.Author.Tests.{leb-true, le-leb}
 use lib.Dec.{leb}
-use lib.ListN.{length, length-map}
+use lib.ListN.{length, get_or, length-map}
 use Rattle.placement.specs.Items.{Item, total}
 use Rattle.placement.specs.Copies.{unmarked, layout_of}
 use Rattle.placement.specs.Rack.{Disk, all_loads, rack_accepted, in_range, most_plan_film, most_demand}
@@ -17,6 +17,7 @@ use Rattle.placement.specs.WellFormed.{Each, Entry}
 use Rattle.placement.proofs.Conjunctions.{both_true, and_holds, false_true}
 use Rattle.placement.proofs.Tests.{in_range_bounds, in_range_lem}
 use Rattle.placement.proofs.Every.{every_each, each_every, distinct_says, distinct_passes}
+use Rattle.placement.proofs.Offsets.{disk_at}
 
 -- Accepted copies that sum to at most a number are entries with numbers up to it.
 copies_entries : (most : ℕ) (xs : List Item) → every copy_accepted xs ≡ true → total xs ≤ most → Each (Entry most) xs
@@ -71,6 +72,15 @@ disks_length [] [] e = refl
 disks_length [] (copies ∷ rest) e = false_true e
 disks_length (d ∷ ds) [] e = false_true e
 disks_length (d ∷ ds) (copies ∷ rest) e = ap suc (disks_length ds rest (both_true (disk_accepted d copies) _ e).1)
+
+-- which the disk's own test accepts,
+pub disks_at_lem :
+    (rack : List Disk) (layout : List (List Item)) (n : ℕ) → disks_accepted rack layout ≡ true → n < length rack
+    → disk_accepted (disk_at rack n) (get_or layout n []) ≡ true
+disks_at_lem [] layout n e h = absurd (omega arith)
+disks_at_lem (d ∷ ds) [] n e h = false_true e
+disks_at_lem (d ∷ ds) (copies ∷ rest) zero e h = (both_true (disk_accepted d copies) _ e).0
+disks_at_lem (d ∷ ds) (copies ∷ rest) (suc n) e h = disks_at_lem ds rest n (both_true (disk_accepted d copies) _ e).1 (omega arith)
 
 -- and serve at most all loads.
 pub disks_served : (rack : List Disk) (layout : List (List Item)) → disks_accepted rack layout ≡ true → served layout ≤ all_loads rack

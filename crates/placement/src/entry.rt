@@ -6,7 +6,7 @@ ghost use Rattle.placement.specs.Copies.{unmarked, marked_with};
 ghost use Rattle.placement.specs.Tables.{entry_of, item_in, copy_entry, copy_in};
 
 // 2³²: one more than the largest number in the low 32 bits.
-// Kept: a number and no struct of halves, since C lends tables of these numbers.
+// Kept: a number and no struct of halves, since tables of these numbers are C's, and racks those of `plan`.
 const HALF: u64 = 4_294_967_296;
 
 // The entry of a film and its viewers or amount.

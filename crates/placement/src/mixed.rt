@@ -97,6 +97,7 @@ fn slots_fit(rack: &[u64], places: usize) -> bool
 }
 
 // Whether tables of these lengths have a place for each slot, each disk and each of `films` left films.
+// Kept: three lengths, since this signature is public; `LentTables::has_room` has them by its tables.
 pub fn room(rack: &[u64], films: usize, copies: usize, counts: usize, left: usize) -> bool
     ensures { result ≡ room_in (disks_in rack.now) films copies counts left }
 {

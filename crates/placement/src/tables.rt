@@ -1,6 +1,10 @@
 // The copy table, the count table and the left table, which always go together.
 ghost use Rattle.std.specs.Prelude.{◌≡◌};
-ghost use Rattle.placement.specs.Tables.{tables, own_tables};
+ghost use Rattle.placement.specs.Packed.{disks_in};
+ghost use Rattle.placement.specs.Tables.{tables, own_tables, room_for};
+ghost use Rattle.placement.specs.LentTables.{held};
+
+use crate::mixed::room;
 
 // The tables that a caller lends for a plan.
 #[derive(Drop)]
@@ -8,6 +12,22 @@ pub struct LentTables<'a, 'b, 'c> {
     pub copies: &'a mut [u64],
     pub counts: &'b mut [u32],
     pub left: &'c mut [u64],
+}
+
+impl<'a, 'b, 'c> LentTables<'a, 'b, 'c> {
+    // Whether the tables have a place for each slot and each disk of a rack, and for so many left
+    // films.
+    pub fn has_room(&self, rack: &[u64], films: usize) -> bool
+        ensures { result ≡ room_for (disks_in rack.now) films (held self.now) }
+    {
+        room(
+            rack,
+            films,
+            self.copies.len(),
+            self.counts.len(),
+            self.left.len(),
+        )
+    }
 }
 
 // Tables of one's own with room for the largest plan.
