@@ -1,6 +1,6 @@
 -- The run of keys that a window is, and the list with less for its last item: their items and entries.
 use mathlib.Core.Path.{◌≡◌, refl, sym, ap, ◌∙◌, subst}
-use mathlib.Core.List.{List, [], ◌∷◌, map}
+use mathlib.Core.List.{List, [], ◌∷◌, ◌++◌, map}
 use Prim.Native.Nat.{ℕ, zero, suc, ◌+◌, ◌-◌, ◌≤◌, ◌<◌}
 use native.Mathlib.Nat.{sub-zero}
 use native.Mathlib.Omega.{arith}
@@ -48,6 +48,14 @@ less_last_none (x ∷ y ∷ ys) = ap (λ (r : List Item). x ∷ r) (less_last_no
 -- The run with less for its last film, as entries.
 abbrev pub entries_of : List ℕ → ℕ → List ℕ
 entries_of run over = map entry_of (less_last over (map item_of run))
+
+-- Its last key stands behind the others.
+pub run_end : {run : List ℕ} (others : List ℕ) (last : ℕ) → run ≡ others ++ last ∷ [] → get_or run (length others) 0 ≡ last
+run_end others last e = ap (λ (r : List ℕ). get_or r (length others) 0) e ∙ go others
+  where
+    go : (others : List ℕ) → get_or (others ++ last ∷ []) (length others) 0 ≡ last
+    go [] = refl
+    go (k ∷ ks) = go ks
 
 module _ (run : List ℕ) where
   -- Its last film is that of its last key.

@@ -1,4 +1,5 @@
 pub mod Cuts
+pub mod Zeros
 pub mod Ascending
 pub mod Insertion
 pub mod Places

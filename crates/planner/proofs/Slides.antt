@@ -1,6 +1,6 @@
 -- The search through the sliding windows, film by film: what is known when the first ones are passed.
 use mathlib.Core.Path.{◌≡◌, sym, ap, ap₂, ◌∙◌, subst}
-use mathlib.Core.List.{List, map}
+use mathlib.Core.List.{List, ◌∷◌, map}
 use Prim.Native.Nat.{ℕ, suc, ◌+◌, ◌-◌, ◌≤◌, ◌<◌, min}
 use native.Mathlib.Nat.{sub-zero}
 use native.Mathlib.Numerals.{add-one}
@@ -12,6 +12,7 @@ use Rattle.placement.specs.Window.{window, series, slidings, last_window, first_
 use Rattle.placement.specs.WellFormed.{Each, Entry}
 use Rattle.placement.proofs.WindowSums.{sliding_bounded}
 use Rattle.planner.specs.Keys.{item_of}
+use Rattle.planner.proofs.Cuts.{rest_inside, rest_first, rest_behind}
 use Rattle.planner.proofs.Runs.{run_moves, run_first, run_whole}
 use Rattle.planner.proofs.Search.{search_passes, search_finds}
 
@@ -51,50 +52,69 @@ module _ {keys : List ℕ} {slots load start sum : ℕ} (p : SlidesPassed keys s
       none_left : length keys - slots - start ≡ 0
       none_left = omega (arith, p.near)
 
-  pub slides_end_sum : length keys - start ≤ slots → sum ≡ total (take (length keys - start) (drop start (map item_of keys)))
-  slides_end_sum h =
-      p.sums ∙ ap total (run_whole keys slots (length keys - start) start (omega arith) (omega arith))
+  pub slides_end_sum : {last : ℕ} → last ≡ length keys - slots → length keys - start ≤ slots → sum ≡ total (take (length keys - last) (drop last (map item_of keys)))
+  slides_end_sum {last} e h =
+      p.sums
+      ∙ ap total (run_whole keys slots (length keys - start) start (omega arith) (omega arith))
+      ∙ ap (λ (s : ℕ). total (take (length keys - s) (drop s (map item_of keys)))) starts
+    where
+      starts : start ≡ last
+      starts = omega (arith, p.near, e)
 
   -- The first film's amount is part of the sum.
-  pub slides_first : 1 ≤ slots → slots < length keys - start → (item_of (get_or keys start 0)).amount ≤ sum
+  slides_first : 1 ≤ slots → slots < length keys - start → (item_of (get_or keys start 0)).amount ≤ sum
   slides_first some h = omega (arith, run_first keys slots start some (omega arith), p.sums)
 
-  module _ {a b : ℕ} (a_is : a ≡ (item_of (get_or keys start 0)).amount) (b_is : b ≡ (item_of (get_or keys (start + slots) 0)).amount) (some : 1 ≤ slots) (h : slots < length keys - start) where
-    sums_move : sum - a + b ≡ total (take slots (drop (suc start) (map item_of keys)))
-    sums_move = omega (arith, run_moves keys slots start (omega arith), p.sums, a_is, b_is, slides_first some h)
+  module _ {out next : ℕ} {outs nexts : List ℕ} (some : 1 ≤ slots) (first : out ∷ outs ≡ drop start keys) (behind : next ∷ nexts ≡ drop (start + slots) keys) where
+    inside : slots < length keys - start
+    inside = omega (arith, rest_inside keys (start + slots) behind)
 
-    one_left : length keys - slots - start ≡ suc (length keys - slots - suc start)
-    one_left = omega arith
+    -- The amount of the film that leaves the window is part of the sum.
+    pub slides_out : {a : ℕ} → a ≡ (item_of out).amount → a ≤ sum
+    slides_out is = omega (arith, is, ap (λ (k : ℕ). (item_of k).amount) (rest_first keys start first), slides_first some inside)
 
-    -- One film further keeps to the bound.
-    pub slides_bounded : Each (Entry most_demand) (map item_of keys) → sum - a + b + 1 ≤ load + most_demand
-    slides_bounded entries =
-        omega (arith, sums_move, sliding_bounded load (map item_of keys) entries slots start (omega (arith, p.sums, p.low)))
+    module _ {a b : ℕ} (out_is : a ≡ (item_of out).amount) (next_is : b ≡ (item_of next).amount) where
+      a_is : a ≡ (item_of (get_or keys start 0)).amount
+      a_is = out_is ∙ ap (λ (k : ℕ). (item_of k).amount) (rest_first keys start first)
 
-    -- The next window stays below the load.
-    pub slides_pass : sum - a + b < load → SlidesPassed keys slots load (start + 1) (sum - a + b)
-    slides_pass low =
-        rw add-one
-        (record {
-          near = omega arith;
-          sums = sums_move;
-          low = low;
-          search =
-              p.search
-              ∙ search_passes load (map item_of keys) (λ s. window s slots) (last_window slots (length keys)) (suc start) (length keys - slots - start) (length keys - slots - suc start) one_left
-              (subst (λ (t : ℕ). t < load) sums_move low);
-        })
+      b_is : b ≡ (item_of (get_or keys (start + slots) 0)).amount
+      b_is = next_is ∙ ap (λ (k : ℕ). (item_of k).amount) (rest_first keys (start + slots) behind)
 
-    -- The next window reaches the load.
-    pub slides_find :
-        load ≤ sum - a + b
-        → window (start + 1) slots ≡ first_reaching load (map item_of keys) (slidings slots (length keys)) (last_window slots (length keys))
-    slides_find high =
-        ap (λ (s : ℕ). window s slots) (add-one start)
-        ∙ sym
-        (p.search
-        ∙ search_finds load (map item_of keys) (λ s. window s slots) (last_window slots (length keys)) (suc start) (length keys - slots - start) (length keys - slots - suc start) one_left
-        (subst (λ (t : ℕ). load ≤ t) sums_move high))
+      sums_move : sum - a + b ≡ total (take slots (drop (suc start) (map item_of keys)))
+      sums_move = omega (arith, run_moves keys slots start (omega (arith, inside)), p.sums, a_is, b_is, slides_first some inside)
 
-    pub slides_find_sum : sum - a + b ≡ total (take slots (drop (start + 1) (map item_of keys)))
-    slides_find_sum = rw add-one sums_move
+      one_left : length keys - slots - start ≡ suc (length keys - slots - suc start)
+      one_left = omega (arith, inside)
+
+      -- One film further keeps to the bound.
+      pub slides_bounded : Each (Entry most_demand) (map item_of keys) → sum - a + b + 1 ≤ load + most_demand
+      slides_bounded entries =
+          omega (arith, sums_move, sliding_bounded load (map item_of keys) entries slots start (omega (arith, p.sums, p.low)))
+
+      -- The next window stays below the load.
+      pub slides_pass : sum - a + b < load → SlidesPassed keys slots load (start + 1) (sum - a + b)
+      slides_pass low =
+          rw add-one
+          (record {
+            near = omega (arith, inside);
+            sums = sums_move;
+            low = low;
+            search =
+                p.search
+                ∙ search_passes load (map item_of keys) (λ s. window s slots) (last_window slots (length keys)) (suc start) (length keys - slots - start) (length keys - slots - suc start) one_left
+                (subst (λ (t : ℕ). t < load) sums_move low);
+          })
+
+      -- The next window reaches the load.
+      pub slides_find :
+          load ≤ sum - a + b
+          → window (start + 1) slots ≡ first_reaching load (map item_of keys) (slidings slots (length keys)) (last_window slots (length keys))
+      slides_find high =
+          ap (λ (s : ℕ). window s slots) (add-one start)
+          ∙ sym
+          (p.search
+          ∙ search_finds load (map item_of keys) (λ s. window s slots) (last_window slots (length keys)) (suc start) (length keys - slots - start) (length keys - slots - suc start) one_left
+          (subst (λ (t : ℕ). load ≤ t) sums_move high))
+
+      pub slides_find_sum : sum - a + b ≡ total (take slots (drop (start + 1) (map item_of keys)))
+      slides_find_sum = rw add-one sums_move

@@ -8,19 +8,19 @@ ghost use Rattle.planner.specs.Copies.{less_last};
 use crate::key;
 use placement::entry_of;
 
-// The entry at a place: the run's key, `over` less for its last one, and 0 behind the run.
-fn entry_at(run: &[u64], over: u32, place: usize) -> u64
-    requires { over ≤ (last_film (map item_of run.now)).amount }
-    ensures { result ≡ get_or (map entry_of (less_last over (map item_of run.now))) place 0 }
+// Stores the entries of a run, `over` less for its last one.
+fn store_run(table: &mut [u64], run: &[u64], over: u32)
+    requires places_in_bounds { length run.now ≤ length table.old }
+    requires over_bound { over ≤ (last_film (map item_of run.now)).amount }
+    ensures { table.new ≡ written (map entry_of (less_last over (map item_of run.now))) table.old }
 {
-    if run.len() <= place {
-        return 0;
+    let Some((last, others)) = run.split_last() else {
+        return;
+    };
+    for (place, key) in others.iter().enumerate() {
+        table[place] = key::as_entry(*key);
     }
-    let key = run[place];
-    if place + 1 < run.len() {
-        return key::as_entry(key);
-    }
-    entry_of(key::film(key), key::amount(key) - over)
+    table[others.len()] = entry_of(key::film(*last), key::amount(*last) - over);
 }
 
 // Stores the entries of a run, `over` less for its last one, and zeros behind them up to `places`.
@@ -30,7 +30,6 @@ pub(crate) fn store_entries(table: &mut [u64], run: &[u64], over: u32, places: u
     ensures { table.new
         ≡ written (padded places (map entry_of (less_last over (map item_of run.now)))) table.old }
 {
-    for place in 0..places {
-        table[place] = entry_at(run, over, place);
-    }
+    store_run(table, run, over);
+    table[run.len()..places].fill(0);
 }

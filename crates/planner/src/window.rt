@@ -62,8 +62,9 @@ fn slide(keys: &[u64], slots: usize, load: u32, first: u32) -> Found
 {
     let last = keys.len().saturating_sub(slots);
     let mut sum = first;
-    for start in 0..last {
-        sum = sum - key::amount(keys[start]) + key::amount(keys[start + slots]);
+    let ahead = &keys[keys.len() - last..];
+    for (start, (out, next)) in keys.iter().zip(ahead).enumerate() {
+        sum = sum - key::amount(*out) + key::amount(*next);
         if load <= sum {
             return Found {
                 start: start + 1,

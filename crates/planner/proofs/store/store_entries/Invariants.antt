@@ -1,9 +1,0 @@
--- `planner::store::store_entries` meets its contract. The invariant: the places so far hold the run's entries, with zeros behind them.
-use mathlib.Core.Path.{◌≡◌}
-use Rattle.placement.specs.Tables.{padded}
-use Rattle.placement.proofs.Written.{overwritten}
-use Rattle.planner.proofs.Copies.{entries_of}
-use Rattle.planner.proofs.store.store_entries.Given as goal
-
-abbrev pub invariant-loop-place : goal.invariant-loop-place
-invariant-loop-place l = l.table ≡ overwritten (padded l.places (entries_of l.run l.over)) l.initial.table l.place
