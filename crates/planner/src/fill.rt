@@ -10,7 +10,7 @@ ghost use Rattle.placement.specs.Tables.{entry_of, padded, written, places};
 ghost use Rattle.placement.specs.Packed.{disks_in};
 ghost use Rattle.planner.specs.WorkingList.{items_in};
 
-use crate::key;
+use crate::key::Key;
 use crate::order::filling_order;
 use crate::store::store_entries;
 use crate::window::{Found, find_window};
@@ -38,9 +38,9 @@ fn take_window(list: &mut WorkingList, found: Found, over: u32)
         list.remove_run(found.start, found.size);
         return;
     }
-    let film = key::film(list.keys()[found.start + (found.size - 1)]);
+    let film = list.keys()[found.start + (found.size - 1)].film();
     list.remove_run(found.start, found.size);
-    list.enter(key::make(film, over));
+    list.enter(Key::new(film, over));
 }
 
 // Fills one disk: its copies go to the front of the lent table, and what they serve leaves the list.
@@ -98,7 +98,7 @@ pub(crate) fn fill_in_order(
     let keys = order.as_slice();
     let mut served = 0;
     for key in keys {
-        let number = key::film(*key) as usize;
+        let number = key.film() as usize;
         let first = all_slots(&rack[..number]);
         let disk = rack[number];
         let step = fill_one(

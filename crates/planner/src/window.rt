@@ -11,7 +11,7 @@ ghost use Rattle.planner.specs.Keys.{item_of};
 ghost use Rattle.planner.specs.Search.{Opened};
 ghost use Rattle.planner.specs.WorkingList.{items_in};
 
-use crate::key;
+use crate::key::Key;
 use crate::worklist::WorkingList;
 
 // A number of opening films and the sum of their amounts.
@@ -30,14 +30,14 @@ pub(crate) struct Found {
 }
 
 // The first opening films that reach the load, or the most that a disk takes.
-fn opening(keys: &[u64], slots: usize, load: u32) -> Prefix
+fn opening(keys: &[Key], slots: usize, load: u32) -> Prefix
     requires { (1 ≤ load) × (load ≤ 65535) × Each (Entry most_demand) (map item_of keys.now) }
     ensures { Opened slots load (map item_of keys.now) result.count result.sum }
 {
     let most = slots.min(keys.len());
     let mut sum = 0;
     for (passed, key) in keys[..most].iter().enumerate() {
-        sum += key::amount(*key);
+        sum += key.amount();
         if sum >= load {
             return Prefix {
                 count: passed + 1,
@@ -51,7 +51,7 @@ fn opening(keys: &[u64], slots: usize, load: u32) -> Prefix
 // The first window of `slots` films from the second film on that reaches the load, or the last
 // window. `first` is the sum of the window at the list's start, and the sum goes along: a turn takes
 // the first film out and the next one in.
-fn slide(keys: &[u64], slots: usize, load: u32, first: u32) -> Found
+fn slide(keys: &[Key], slots: usize, load: u32, first: u32) -> Found
     requires in_range { (1 ≤ slots) × (load ≤ 65535) × Each (Entry most_demand) (map item_of keys.now) }
     requires first_value { (first ≡ total (take slots (map item_of keys.now))) × (first < load) }
     ensures size_value { window result.start result.size
@@ -64,7 +64,7 @@ fn slide(keys: &[u64], slots: usize, load: u32, first: u32) -> Found
     let mut sum = first;
     let ahead = &keys[keys.len() - last..];
     for (start, (out, next)) in keys.iter().zip(ahead).enumerate() {
-        sum = sum - key::amount(*out) + key::amount(*next);
+        sum = sum - out.amount() + next.amount();
         if load <= sum {
             return Found {
                 start: start + 1,

@@ -15,6 +15,7 @@ use Rattle.planner.specs.Order.{order_keys}
 use Rattle.planner.specs.WorkingList.{items_in}
 use Rattle.planner.proofs.Cuts.{take_map}
 use Rattle.planner.proofs.FillingKeys.{order_keys_length}
+use Rattle.planner.proofs.Places.{film_at}
 use Rattle.planner.proofs.NextDisk.{NextDisk, number_below, next_disk}
 use Rattle.planner.proofs.FilledTo.{filled_more, all_copies, all_counts, all_remaining, all_served}
 use Rattle.planner.proofs.fill.fill_in_order.Goals as goal
@@ -30,7 +31,7 @@ slice_bounds-all_slots-end c =
     let i : ℕ = c.loop-key.key-index in
     let order_is : order ≡ order_keys (disks_in rack) = c.as_slice-keys.ensures.value ∙ c.filling_order-order.ensures in
     let here : i < length rack = omega (arith, c.loop-key-test.true, ap length order_is, order_keys_length (disks_in rack), disks_length rack) in
-    let below : c.film-number.result < length rack = number_below rack order order_is c.requires.rack_value i here c.film-number.ensures in
+    let below : c.film-number.result < length rack = number_below rack order order_is c.requires.rack_value i here (film_at order i c.film-number.ensures c.key-item.is c.loop-key-test.true) in
     omega (arith, below, length-take c.film-number.result rack)
 
 pub bounds-rack-number : goal.bounds-rack-number
@@ -40,7 +41,7 @@ bounds-rack-number c =
     let i : ℕ = c.loop-key.key-index in
     let order_is : order ≡ order_keys (disks_in rack) = c.as_slice-keys.ensures.value ∙ c.filling_order-order.ensures in
     let here : i < length rack = omega (arith, c.loop-key-test.true, ap length order_is, order_keys_length (disks_in rack), disks_length rack) in
-    let below : c.film-number.result < length rack = number_below rack order order_is c.requires.rack_value i here c.film-number.ensures in
+    let below : c.film-number.result < length rack = number_below rack order order_is c.requires.rack_value i here (film_at order i c.film-number.ensures c.key-item.is c.loop-key-test.true) in
     omega (arith, below)
 
 pub slice_bounds-fill_one-count : goal.slice_bounds-fill_one-count
@@ -54,7 +55,7 @@ slice_bounds-fill_one-count c =
     let first : ℕ = c.all_slots-first.result in
     let first_is : first ≡ min (all_slots (take number (disks_in rack))) 2048 = c.all_slots-first.ensures ∙ ap (λ (ds : List Disk). min (all_slots ds) 2048) (sym (take_map disk_in number rack)) in
     let copies_same : length c.loop-key.copies ≡ length c.args.copies.now = c.loop-key.invariant.1.copies_kept in
-    let d : NextDisk rack i number first (disk_in (get_or rack number 0)).slots (disk_in (get_or rack number 0)).load = next_disk rack order order_is c.requires.rack_value i here c.film-number.ensures first_is refl refl in
+    let d : NextDisk rack i number first (disk_in (get_or rack number 0)).slots (disk_in (get_or rack number 0)).load = next_disk rack order order_is c.requires.rack_value i here (film_at order i c.film-number.ensures c.key-item.is c.loop-key-test.true) first_is refl refl in
     omega (arith, d.room, c.requires.rack_in_bounds.0, copies_same)
 
 pub slice_bounds-fill_one-start : goal.slice_bounds-fill_one-start
@@ -68,7 +69,7 @@ slice_bounds-fill_one-start c =
     let first : ℕ = c.all_slots-first.result in
     let first_is : first ≡ min (all_slots (take number (disks_in rack))) 2048 = c.all_slots-first.ensures ∙ ap (λ (ds : List Disk). min (all_slots ds) 2048) (sym (take_map disk_in number rack)) in
     let copies_same : length c.loop-key.copies ≡ length c.args.copies.now = c.loop-key.invariant.1.copies_kept in
-    let d : NextDisk rack i number first (disk_in (get_or rack number 0)).slots (disk_in (get_or rack number 0)).load = next_disk rack order order_is c.requires.rack_value i here c.film-number.ensures first_is refl refl in
+    let d : NextDisk rack i number first (disk_in (get_or rack number 0)).slots (disk_in (get_or rack number 0)).load = next_disk rack order order_is c.requires.rack_value i here (film_at order i c.film-number.ensures c.key-item.is c.loop-key-test.true) first_is refl refl in
     omega (arith, d.room, c.requires.rack_in_bounds.0, copies_same)
 
 pub fill_one-step-requires : goal.fill_one-step-requires
@@ -82,7 +83,7 @@ fill_one-step-requires c =
     let first : ℕ = c.all_slots-first.result in
     let first_is : first ≡ min (all_slots (take number (disks_in rack))) 2048 = c.all_slots-first.ensures ∙ ap (λ (ds : List Disk). min (all_slots ds) 2048) (sym (take_map disk_in number rack)) in
     let copies_same : length c.loop-key.copies ≡ length c.args.copies.now = c.loop-key.invariant.1.copies_kept in
-    let d : NextDisk rack i number first c.disk_slots.result.0 c.disk_streams.result.0 = next_disk rack order order_is c.requires.rack_value i here c.film-number.ensures first_is c.disk_slots.ensures c.disk_streams.ensures in
+    let d : NextDisk rack i number first c.disk_slots.result.0 c.disk_streams.result.0 = next_disk rack order order_is c.requires.rack_value i here (film_at order i c.film-number.ensures c.key-item.is c.loop-key-test.true) first_is c.disk_slots.ensures c.disk_streams.ensures in
     let r = d.range in
     record {
       slots_in_bounds = part_room c.loop-key.copies first c.disk_slots.result.0 (omega (arith, d.room, c.requires.rack_in_bounds.0, copies_same));
@@ -96,7 +97,7 @@ bounds-counts-number c =
     let i : ℕ = c.loop-key.key-index in
     let order_is : order ≡ order_keys (disks_in rack) = c.as_slice-keys.ensures.value ∙ c.filling_order-order.ensures in
     let here : i < length rack = omega (arith, c.loop-key-test.true, ap length order_is, order_keys_length (disks_in rack), disks_length rack) in
-    let below : c.film-number.result < length rack = number_below rack order order_is c.requires.rack_value i here c.film-number.ensures in
+    let below : c.film-number.result < length rack = number_below rack order order_is c.requires.rack_value i here (film_at order i c.film-number.ensures c.key-item.is c.loop-key-test.true) in
     omega (arith, below, c.loop-key.invariant.1.counts_kept, c.requires.rack_in_bounds.1)
 
 pub overflow_add-served : goal.overflow_add-served
@@ -110,7 +111,7 @@ overflow_add-served c =
     let first : ℕ = c.all_slots-first.result in
     let first_is : first ≡ min (all_slots (take number (disks_in rack))) 2048 = c.all_slots-first.ensures ∙ ap (λ (ds : List Disk). min (all_slots ds) 2048) (sym (take_map disk_in number rack)) in
     let copies_same : length c.loop-key.copies ≡ length c.args.copies.now = c.loop-key.invariant.1.copies_kept in
-    let d : NextDisk rack i number first c.disk_slots.result.0 c.disk_streams.result.0 = next_disk rack order order_is c.requires.rack_value i here c.film-number.ensures first_is c.disk_slots.ensures c.disk_streams.ensures in
+    let d : NextDisk rack i number first c.disk_slots.result.0 c.disk_streams.result.0 = next_disk rack order order_is c.requires.rack_value i here (film_at order i c.film-number.ensures c.key-item.is c.loop-key-test.true) first_is c.disk_slots.ensures c.disk_streams.ensures in
     let r = d.range in
     let each : Disk = disk c.disk_slots.result.0 c.disk_streams.result.0 in
     let served_most : c.fill_one-step.result.served ≤ 65535 = omega (arith, c.fill_one-step.ensures.served_value, copies_load each (items_in c.loop-key.list) r.some_slots r.some_load, r.load) in
@@ -133,7 +134,7 @@ loop-key-preserved c =
     let first : ℕ = c.all_slots-first.result in
     let first_is : first ≡ min (all_slots (take number (disks_in rack))) 2048 = c.all_slots-first.ensures ∙ ap (λ (ds : List Disk). min (all_slots ds) 2048) (sym (take_map disk_in number rack)) in
     let copies_same : length c.loop-key.copies ≡ length c.args.copies.now = c.loop-key.invariant.1.copies_kept in
-    let d : NextDisk rack i number first c.disk_slots.result.0 c.disk_streams.result.0 = next_disk rack order order_is c.requires.rack_value i here c.film-number.ensures first_is c.disk_slots.ensures c.disk_streams.ensures in
+    let d : NextDisk rack i number first c.disk_slots.result.0 c.disk_streams.result.0 = next_disk rack order order_is c.requires.rack_value i here (film_at order i c.film-number.ensures c.key-item.is c.loop-key-test.true) first_is c.disk_slots.ensures c.disk_streams.ensures in
     let r = d.range in
     let each : Disk = disk c.disk_slots.result.0 c.disk_streams.result.0 in
     let served_most : c.fill_one-step.result.served ≤ 65535 = omega (arith, c.fill_one-step.ensures.served_value, copies_load each (items_in c.loop-key.list) r.some_slots r.some_load, r.load) in

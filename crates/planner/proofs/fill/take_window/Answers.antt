@@ -10,6 +10,7 @@ use Rattle.placement.specs.Window.{Window, window, within, outside}
 use Rattle.placement.proofs.Tests.{passed}
 use Rattle.planner.specs.Keys.{item_of}
 use Rattle.planner.specs.WorkingList.{items_in}
+use Rattle.planner.proofs.Places.{film_at}
 use Rattle.planner.proofs.Remainder.{last_some, remainder_key, remainder_entry}
 use Rattle.planner.proofs.fill.take_window.Goals as goal
 
@@ -27,10 +28,11 @@ returns c =
     let start : ℕ = c.args.found.start in
     let size : ℕ = c.args.found.size in
     let some : 1 ≤ size = last_some (map item_of keys) start size c.args.over (omega arith) c.requires.over_bound in
+    let inside : start + size ≤ length keys = omega (arith, c.requires.inside, length-map keys item_of) in
     c.enter.ensures
     ∙ ap₂ (λ (x : Item) (list : List Item). enter x list)
-    (remainder_key keys start size c.args.over c.film-film.result c.make.result (omega (arith, c.requires.inside, length-map keys item_of)) some
-    (c.film-film.ensures ∙ ap (λ (l : List ℕ). (item_of (get_or l (start + (size - 1)) 0)).film) c.keys.ensures.value) c.make.ensures)
+    (remainder_key keys start size c.args.over c.film-film.result c.new.result inside some
+    (film_at c.keys.result.now (start + (size - 1)) c.film-film.ensures c.index-keys-found.is (omega (arith, inside, some, ap length c.keys.ensures.value)) ∙ ap (λ (l : List ℕ). (item_of (get_or l (start + (size - 1)) 0)).film) c.keys.ensures.value) c.new.ensures)
     c.remove_run-2.ensures
 
 pub enter-requires-clause-entry : goal.enter-requires-clause-entry
@@ -41,6 +43,6 @@ enter-requires-clause-entry c =
     let size : ℕ = c.args.found.size in
     let some : 1 ≤ size = last_some (map item_of keys) start size c.args.over (omega arith) c.requires.over_bound in
     let inside : start + size ≤ length keys = omega (arith, c.requires.inside, length-map keys item_of) in
-    remainder_entry keys start size c.args.over c.make.result inside some list.entries c.requires.over_bound
-    (remainder_key keys start size c.args.over c.film-film.result c.make.result inside some
-    (c.film-film.ensures ∙ ap (λ (l : List ℕ). (item_of (get_or l (start + (size - 1)) 0)).film) c.keys.ensures.value) c.make.ensures)
+    remainder_entry keys start size c.args.over c.new.result inside some list.entries c.requires.over_bound
+    (remainder_key keys start size c.args.over c.film-film.result c.new.result inside some
+    (film_at c.keys.result.now (start + (size - 1)) c.film-film.ensures c.index-keys-found.is (omega (arith, inside, some, ap length c.keys.ensures.value)) ∙ ap (λ (l : List ℕ). (item_of (get_or l (start + (size - 1)) 0)).film) c.keys.ensures.value) c.new.ensures)

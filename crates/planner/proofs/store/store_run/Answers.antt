@@ -5,6 +5,7 @@ use Rattle.placement.specs.Items.{item}
 use Rattle.placement.specs.Tables.{entry_of}
 use Rattle.placement.proofs.Written.{overwritten, overwritten_more, overwritten_all}
 use Rattle.planner.specs.Keys.{item_of}
+use Rattle.planner.proofs.Cuts.{element_at}
 use Rattle.planner.proofs.Copies.{entries_of, entries_length, entry_early, entry_last, run_end}
 use Rattle.planner.proofs.store.store_run.Goals as goal
 
@@ -21,9 +22,11 @@ loop-place-preserved c =
     let a = c.args in
     let place = c.loop-place.place in
     let cases = c.in-Some.ensures.cases in
-    let key = ap (λ run. get_or run place 0) cases.0 ∙ get_or_append_left c.in-Some.others.now _ 0 place (omega arith) in
+    let key =
+    element_at c.in-Some.others.now place c.index-others-place.is (omega arith)
+    ∙ sym (ap (λ run. get_or run place 0) cases.0 ∙ get_or_append_left c.in-Some.others.now _ 0 place (omega arith)) in
     stored_more a.run.now c.loop-place.table a.table.now a.over place c.as_entry.result c.loop-place.invariant
-    (c.as_entry.ensures ∙ ap (λ k. entry_of (item_of k)) (sym key) ∙ entry_early a.run.now a.over place (omega (arith, cases.1)))
+    (c.as_entry.ensures ∙ ap (λ k. entry_of (item_of k)) key ∙ entry_early a.run.now a.over place (omega (arith, cases.1)))
     (omega (arith, cases.1)) (omega (arith, c.requires.places_in_bounds))
 
 pub returns : goal.returns
