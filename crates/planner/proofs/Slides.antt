@@ -12,7 +12,7 @@ use Rattle.placement.specs.Window.{window, series, slidings, last_window, first_
 use Rattle.placement.specs.WellFormed.{Each, Entry}
 use Rattle.placement.proofs.WindowSums.{sliding_bounded}
 use Rattle.planner.specs.Keys.{item_of}
-use Rattle.planner.proofs.Cuts.{rest_inside, rest_first, rest_behind}
+use Rattle.planner.proofs.Cuts.{rest_inside, rest_first}
 use Rattle.planner.proofs.Runs.{run_moves, run_first, run_whole}
 use Rattle.planner.proofs.Search.{search_passes, search_finds}
 

@@ -1,9 +1,8 @@
 -- `planner::window::slide` meets its contract: a turn takes the first pair of those that are left.
 use Rattle.std.proofs.Common.{◌≡◌, ◌≤◌, ◌+◌, ◌-◌, ◌∙◌, sym, ap, length, length-drop, drop, suc, ⊎_elim, arith}
-use Rattle.std.specs.Slice.Iter.{iter_rest}
-use Rattle.std.specs.Iterator.Adapters.{enumerate_source, enumerate_count, zip_first, zip_second}
+use Rattle.std.specs.Iterator.Adapters.{enumerate_count}
 use Rattle.planner.proofs.Cuts.{rest_behind}
-use Rattle.planner.proofs.Slides.{SlidesPassed, slides_out, slides_bounded, slides_pass, slides_find, slides_find_sum, slides_end_sum}
+use Rattle.planner.proofs.Slides.{slides_out, slides_bounded, slides_pass, slides_find, slides_find_sum, slides_end_sum}
 use Rattle.planner.proofs.window.slide.Goals as goal
 
 pub overflow_sub-sum : goal.overflow_sub-sum
