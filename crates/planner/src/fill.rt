@@ -43,7 +43,8 @@ fn take_window(list: &mut WorkingList, found: Found, over: u32)
     list.enter(Key::new(film, over));
 }
 
-// Fills one disk: its copies go to the front of the lent table, and what they serve leaves the list.
+// Fills one disk: its copies go to the front of the lent table, and what they serve leaves the
+// list.
 fn fill_one(copies: &mut [u64], list: &mut WorkingList, slots: Slots, streams: Streams) -> Step
     requires slots_in_bounds { slots.0 ≤ length copies.old }
     requires le_slots { (1 ≤ slots.0) × (1 ≤ streams.0) × (streams.0 ≤ most_load) }
@@ -88,10 +89,12 @@ pub(crate) fn fill_in_order(
         × (length rack.now ≤ length counts.old) }
     requires rack_value { rack_accepted (disks_in rack.now) ≡ true }
     ensures copies_after { copies.new
-        ≡ written (places (disks_in rack.now) (placed (disks_in rack.now) (items_in list.old))) copies.old }
+        ≡ written (places (disks_in rack.now)
+        (placed (disks_in rack.now) (items_in list.old))) copies.old }
     ensures counts_after { counts.new
         ≡ written (map length (placed (disks_in rack.now) (items_in list.old))) counts.old }
-    ensures list_after { items_in list.new ≡ remaining (filling (disks_in rack.now)) (items_in list.old) }
+    ensures list_after { items_in list.new
+        ≡ remaining (filling (disks_in rack.now)) (items_in list.old) }
     ensures served_value { result ≡ served_by (placed (disks_in rack.now) (items_in list.old)) }
 {
     let order = filling_order(rack);

@@ -1,5 +1,5 @@
-// The plan of a call that is not refused: the list, the disks in order, the shelf copies, and what is
-// left.
+// The plan of a call that is not refused: the list, the disks in order, the shelf copies, and what
+// is left.
 ghost use Rattle.std.specs.Prelude.{◌≡◌};
 ghost use Rattle.placement.specs.Packed.{disks_in};
 ghost use Rattle.placement.specs.LentTables.{held, SameSlices};

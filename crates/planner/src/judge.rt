@@ -1,4 +1,5 @@
-// The refusals of planning, in the order of documents 01 and 02, from the rack, the list and the lengths of the lent tables.
+// The refusals of planning, in the order of documents 01 and 02, from the rack, the list and the
+// lengths of the lent tables.
 ghost use Rattle.std.specs.Prelude.{◌≡◌};
 ghost use Rattle.refusal.specs.Numbers.{verdict_of};
 ghost use Rattle.placement.specs.Packed.{disks_in};

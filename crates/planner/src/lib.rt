@@ -29,8 +29,9 @@ use judge::judge;
 use placement::LentTables;
 use refusal::Refusal;
 
-// Plans for a rack of disks, one number each, from the bytes of a demand list. A plan goes into the lent tables: each disk's copies from its first place on,
-// the number of copies of each disk, and what is left. A refusal changes none of them.
+// Plans for a rack of disks, one number each, from the bytes of a demand list. A plan goes into the
+// lent tables: each disk's copies from its first place on, the number of copies of each disk, and
+// what is left. A refusal changes none of them.
 pub fn plan(
     rack: &[u64],
     list: &[u8],
@@ -49,7 +50,8 @@ pub fn plan(
     plan_behind(rack, list, copies, counts, left, Ok(()))
 }
 
-// Plans as `plan` does, unless another judgement, which stands behind planning's refusals, is a refusal.
+// Plans as `plan` does, unless another judgement, which stands behind planning's refusals, is a
+// refusal.
 pub fn plan_behind(
     rack: &[u64],
     list: &[u8],

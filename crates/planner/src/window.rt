@@ -49,10 +49,11 @@ fn opening(keys: &[Key], slots: usize, load: u32) -> Prefix
 }
 
 // The first window of `slots` films from the second film on that reaches the load, or the last
-// window. `first` is the sum of the window at the list's start, and the sum goes along: a turn takes
-// the first film out and the next one in.
+// window. `first` is the sum of the window at the list's start, and the sum goes along: a turn
+// takes the first film out and the next one in.
 fn slide(keys: &[Key], slots: usize, load: u32, first: u32) -> Found
-    requires in_range { (1 ≤ slots) × (load ≤ 65535) × Each (Entry most_demand) (map item_of keys.now) }
+    requires in_range { (1 ≤ slots) × (load ≤ 65535) × Each (Entry most_demand)
+        (map item_of keys.now) }
     requires first_value { (first ≡ total (take slots (map item_of keys.now))) × (first < load) }
     ensures size_value { window result.start result.size
         ≡ first_reaching load (map item_of keys.now)
