@@ -4,7 +4,7 @@ use mathlib.Core.List.{List, [], ◌∷◌, ◌++◌, map}
 use Prim.Native.Nat.{ℕ, zero, suc, ◌+◌, ◌-◌, ◌≤◌, ◌<◌}
 use native.Mathlib.Nat.{sub-zero}
 use native.Mathlib.Omega.{arith}
-use lib.ListN.{length, take, drop, get_or, length-map, length-drop, get_or-map, get_or-eq_default}
+use lib.ListN.{length, take, drop, get_or, length-map, length-drop, get_or-map}
 use lib.Seq.{length-take-le, get_or-take, get_or-drop}
 use Rattle.placement.specs.Items.{Item, item}
 use Rattle.placement.specs.Window.{window, within}
@@ -72,11 +72,7 @@ module _ (run : List ℕ) where
       entry_is : get_or (entries_of run over) place 0 ≡ entry_of (get_or (less_last over (map item_of run)) place (item 0 0))
       entry_is = get_or-map entry_of (less_last over (map item_of run)) place (item 0 0)
 
-      -- Behind the run there is none,
-      pub entry_behind : length run ≤ place → 0 ≡ get_or (entries_of run over) place 0
-      entry_behind h = sym (get_or-eq_default (entries_of run over) 0 (subst (λ (n : ℕ). n ≤ place) (sym entries_length) h))
-
-      -- before its last film it is the key's,
+      -- Before the run's last film it is the key's,
       pub entry_early : place + 1 < length run → entry_of (item_of (get_or run place 0)) ≡ get_or (entries_of run over) place 0
       entry_early h =
           sym
