@@ -138,14 +138,14 @@ StoredTexts (given both) oldkeys newkeys v =
     (m : ℕ) × (n : ℕ) × (v ≡ given (m, n)) × (m ≤ length oldkeys) × (n ≤ length newkeys)
     × (stored_at m oldkeys ≡ stored_copies both.old) × (stored_at n newkeys ≡ stored_copies both.new)
 
--- The answer for some transfers, whose entries stand in front.
+-- The answer for some transfers, and their entries.
 pub record TransfersMade (ts : List Transfer) (entries : List ℕ) (answer : Numbers ScheduleSize) : Type 0 where
   pub told : answer ≡ record { refusal = 0; second = 0; values = size_of ts }
-  pub front : take (length ts) entries ≡ map transfer_entry ts
+  pub listed : entries ≡ map transfer_entry ts
   pub fit : Each TransferFits ts
-  pub room : length ts ≤ length entries
+  pub few : length ts ≤ most_transfers
 
--- Two texts that are refused, or whose transfers stand in front of the entries.
+-- Two texts that are refused, or whose transfers the entries are.
 abbrev pub WorkedOut : Verdict Plans → (entries : List ℕ) → Numbers ScheduleSize → Type 0
 WorkedOut (refused number second) entries answer = answer ≡ record { refusal = number; second = second; values = schedule_size 0 0 }
 WorkedOut (given both) entries answer = TransfersMade (transfers_of both) entries answer

@@ -1,11 +1,16 @@
 // The new copies that the old plan hasn't on the same disk: both lists of keys ascend, so that one
 // pass over both finds them.
-ghost use Rattle.std.specs.Prelude.{◌≡◌, map, ◌≤◌, ◌<◌, length, take, nat_le, position};
+ghost use Rattle.std.specs.Prelude.{◌≡◌, [], map, ◌≤◌, ◌<◌, length, take, nat_le, position};
+ghost use Rattle.arrayvec.specs.ArrayVec.{array_vec_len};
 ghost use Rattle.placement.specs.WellFormed.{Each};
 ghost use Rattle.transfer_schedule.specs.Stored.{is_stored};
 ghost use Rattle.transfer_schedule.specs.Schedule.{lacking};
 ghost use Rattle.transfer_schedule.specs.Words.{InOrder};
-ghost use Rattle.transfers.specs.Keys.{stored_in, stored_at, PassedTo};
+ghost use Rattle.transfer_schedule.specs.Fits.{most_transfers};
+ghost use Rattle.transfers.specs.Keys.{stored_in, PassedTo};
+
+use crate::MOST_TRANSFERS;
+use arrayvec::ArrayVec;
 
 // The first place whose key is not below `key`.
 fn first_not_below(keys: &[u64], key: u64) -> Option<usize>
@@ -34,22 +39,20 @@ fn stands_at(old: &[u64], at: usize, key: u64) -> bool
     at < old.len() && old[at] == key
 }
 
-// Puts the keys of the new copies that the old plan lacks in front, and answers how many there are.
-// The old keys before `at` are below the next one.
-pub(crate) fn put_lacking(old: &[u64], new: &[u64], keys: &mut [u64]) -> usize
-    requires { InOrder (map stored_in old.now) × InOrder (map stored_in new.now)
-        × (length new.now ≤ length keys.old) }
-    ensures keys_after { stored_at result keys.new ≡ lacking (map stored_in old.now) (map stored_in new.now) }
-    ensures upper_bound { result ≤ length new.now }
+// Puts the keys of the new copies that the old plan lacks into an empty list. The old keys before
+// `at` are below the next one.
+pub(crate) fn put_lacking(old: &[u64], new: &[u64], keys: &mut ArrayVec<u64, MOST_TRANSFERS>)
+    requires in_order { InOrder (map stored_in old.now) × InOrder (map stored_in new.now) }
+    requires few { length new.now ≤ most_transfers }
+    requires empty { keys.old.items ≡ [] }
+    ensures keys_after { map stored_in keys.new.items ≡ lacking (map stored_in old.now) (map stored_in new.now) }
+    ensures upper_bound { array_vec_len keys.new ≤ length new.now }
 {
-    let mut n = 0;
     let mut at = 0;
     for key in new {
         at = pass_lower(old, at, *key);
         if !stands_at(old, at, *key) {
-            keys[n] = *key;
-            n += 1;
+            keys.push(*key);
         }
     }
-    n
 }

@@ -11,7 +11,7 @@ mod sources; // sources.rt: where a film is copied from
 mod stored; // stored.rt: stored copies as numbers
 mod texts; // texts.rt: the two texts
 
-ghost use Rattle.std.specs.Prelude.{◌≡◌, OnErr};
+ghost use Rattle.std.specs.Prelude.{◌≡◌, [], OnErr};
 ghost use Rattle.transfer_schedule.specs.Counts.{ends};
 ghost use Rattle.transfer_schedule.specs.Transfers.{texts_verdict};
 ghost use Rattle.transfer_schedule.specs.TransfersPromise.{TransfersPromise, CountsPromise, CountedPromise};
@@ -19,6 +19,7 @@ ghost use Rattle.transfers.specs.Keys.{WorkedOut};
 ghost use Rattle.transfers.specs.Answers.{transfer_numbers};
 
 pub use answer::InRounds;
+use arrayvec::ArrayVec;
 use count::count_transfers;
 use refusal::Refusal;
 use schedule::transfers_between;
@@ -30,14 +31,15 @@ const ROWS: usize = 9;
 // The most transfers: one for each copy of a new plan.
 pub(crate) const MOST_TRANSFERS: usize = 256;
 
-// Works out the transfers of two texts: their entries stand in front, or the answer is a refusal of
-// the texts.
+// Works out the transfers of two texts: their entries are put into an empty list, or the answer is
+// a refusal of the texts.
 fn work_out(
     old: &[u8],
     new: &[u8],
-    entries: &mut [u64; MOST_TRANSFERS],
+    entries: &mut ArrayVec<u64, MOST_TRANSFERS>,
 ) -> Result<InRounds, Refusal>
-    ensures { WorkedOut (texts_verdict old.now new.now) entries.new (transfer_numbers result) }
+    requires { entries.old.items ≡ [] }
+    ensures { WorkedOut (texts_verdict old.now new.now) entries.new.items (transfer_numbers result) }
 {
     let mut oldkeys = [0u64; MOST_TRANSFERS];
     let mut newkeys = [0u64; MOST_TRANSFERS];
@@ -57,16 +59,16 @@ pub fn transfers_counted(
         counts.old counts.new (transfer_numbers result) }
     ensures unchanged { OnErr result ((list.new ≡ list.old) × (counts.new ≡ counts.old)) }
 {
-    let mut entries = [0u64; MOST_TRANSFERS];
+    let mut entries = ArrayVec::new();
     let made = work_out(old, new, &mut entries)?;
-    let n = made.transfers as usize;
+    let listed = entries.as_slice();
+    let n = listed.len();
     if list.len() < n {
         return Err(Refusal::TablesTooShort);
     }
     if counts.len() < ROWS {
         return Err(Refusal::TablesTooShort);
     }
-    let listed = &entries[..n];
     list[..n].copy_from_slice(listed);
     let table = count_transfers([[0; 9]; 9], listed);
     counts[..ROWS].copy_from_slice(&table);

@@ -14,6 +14,7 @@ use crate::lacking::put_lacking;
 use crate::rounds::Rounds;
 use crate::sources::{Sources, note_starts};
 use crate::stored::DISK;
+use arrayvec::ArrayVec;
 
 // The entry of a transfer: the film has the lowest 16 bits, source and destination 8 each, and the
 // round all above.
@@ -58,30 +59,31 @@ fn place_all(sources: &Sources, keys: &mut [u64]) -> u64
     last
 }
 
-// The transfers from some copies to others, with their number and that of their rounds. The keys of
-// the copies that the old ones lack stand among the entries first. No copy is noted among the
-// starts of searches at first, since 256 is behind all of them.
+// The transfers from some copies to others, with their number and that of their rounds. The empty
+// list gets the keys of the copies that the old ones lack first. No copy is noted among the starts
+// of searches at first, since 256 is behind all of them.
 pub(crate) fn transfers_between(
     old: &[u64],
     new: &[u64],
-    entries: &mut [u64; MOST_TRANSFERS],
+    entries: &mut ArrayVec<u64, MOST_TRANSFERS>,
 ) -> InRounds
     requires olds { Each CopyFits (map stored_in old.now) × InOrder (map stored_in old.now)
         × (length old.now ≤ most_transfers) }
     requires news { Each CopyFits (map stored_in new.now) × InOrder (map stored_in new.now)
         × (length new.now ≤ most_transfers) }
-    ensures { TransfersMade (schedule_of (map stored_in old.now) (map stored_in new.now)) entries.new (transfer_numbers (Ok result)) }
+    requires empty { entries.old.items ≡ [] }
+    ensures { TransfersMade (schedule_of (map stored_in old.now) (map stored_in new.now)) entries.new.items (transfer_numbers (Ok result)) }
 {
     let mut starts = [256u16; 4096];
     note_starts(old, &mut starts);
-    let n = put_lacking(old, new, entries);
+    put_lacking(old, new, entries);
     let sources = Sources {
         old,
         starts: &starts,
     };
-    let rounds = place_all(&sources, &mut entries[..n]);
+    let rounds = place_all(&sources, entries.as_mut_slice());
     InRounds {
-        transfers: n as u32,
+        transfers: entries.len() as u32,
         rounds: rounds as u32,
     }
 }

@@ -21,5 +21,6 @@ transfers_between-requires c =
     let longer = length-take-le n newkeys r.new_room in
     record {
       olds = (olds_fit a.old.now a.new.now oldkeys newkeys m n r, olds_ordered a.old.now a.new.now oldkeys newkeys m n r, omega (arith, long, r.old_room, c.read_texts.auto.oldkeys, length-replicate {A = ℕ} 256 0));
+      empty = c.requires;
       news = (news_fit a.old.now a.new.now oldkeys newkeys m n r, news_ordered a.old.now a.new.now oldkeys newkeys m n r, omega (arith, longer, r.new_room, c.read_texts.auto.newkeys, length-replicate {A = ℕ} 256 0));
     }
