@@ -41,10 +41,8 @@ fn work_out(
     requires { entries.old.items ≡ [] }
     ensures { WorkedOut (texts_verdict old.now new.now) entries.new.items (transfer_numbers result) }
 {
-    let mut oldkeys = [0u64; MOST_TRANSFERS];
-    let mut newkeys = [0u64; MOST_TRANSFERS];
-    let (old_copies, new_copies) = read_texts(old, new, &mut oldkeys, &mut newkeys)?;
-    Ok(transfers_between(&oldkeys[..old_copies], &newkeys[..new_copies], entries))
+    let (old_keys, new_keys) = read_texts(old, new)?;
+    Ok(transfers_between(old_keys.as_slice(), new_keys.as_slice(), entries))
 }
 
 // Gives the transfers from an old plan's text to a new one's: the lent list gets an entry for each,
