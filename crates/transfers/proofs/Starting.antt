@@ -57,17 +57,17 @@ starts_all starts cs from film =
 -- One copy more in front, whose place is noted.
 module _ (starts : List ℕ) (cs : List StoredCopy) (i key : ℕ) (here : drop i cs ≡ stored_in key ∷ drop (i + 1) cs) (wide : length starts ≡ start_places) where
   abbrev noted : List ℕ
-  noted = set starts (key % start_places) i
+  noted = set starts (key % 16777216 % start_places) i
 
   -- Films with its remainder start there,
-  own_start : (film : ℕ) → film % start_places ≡ key % start_places → get_or noted (film % start_places) 0 - i ≡ 0
+  own_start : (film : ℕ) → film % start_places ≡ key % 16777216 % start_places → get_or noted (film % start_places) 0 - i ≡ 0
   own_start film same =
       let at : get_or noted (film % start_places) 0 ≡ i =
-      ap (λ (k : ℕ). get_or noted k 0) same ∙ get_or-set_same starts (key % start_places) i 0 (omega (arith, wide)) in
+      ap (λ (k : ℕ). get_or noted k 0) same ∙ get_or-set_same starts (key % 16777216 % start_places) i 0 (omega (arith, wide)) in
       omega arith
 
   -- and for the others it is one more that has not the film.
-  other_film : (film : ℕ) → (film % start_places ≡ key % start_places → ⊥) → (stored_in key).film ≡ film → ⊥
+  other_film : (film : ℕ) → (film % start_places ≡ key % 16777216 % start_places → ⊥) → (stored_in key).film ≡ film → ⊥
   other_film film apart same = apart (omega (arith, same))
 
   passed_more :
@@ -84,9 +84,9 @@ module _ (starts : List ℕ) (cs : List StoredCopy) (i key : ℕ) (here : drop i
 
   pub starts_more : StartsFrom starts cs (i + 1) → StartsFrom noted cs i
   starts_more before film =
-      by_test (eqb (film % start_places) (key % start_places))
-      (λ e. subst (λ (n : ℕ). NoneOf film (take n (drop i cs))) (sym (own_start film (eqb-true (film % start_places) (key % start_places) e))) tt)
+      by_test (eqb (film % start_places) (key % 16777216 % start_places))
+      (λ e. subst (λ (n : ℕ). NoneOf film (take n (drop i cs))) (sym (own_start film (eqb-true (film % start_places) (key % 16777216 % start_places) e))) tt)
       (λ e.
-      let apart : (film % start_places ≡ key % start_places) → ⊥ = eqb-false (film % start_places) (key % start_places) e in
-      subst (λ (start : ℕ). NoneOf film (take (start - i) (drop i cs))) (sym (get_or-set_other starts (key % start_places) (film % start_places) i 0 apart))
+      let apart : (film % start_places ≡ key % 16777216 % start_places) → ⊥ = eqb-false (film % start_places) (key % 16777216 % start_places) e in
+      subst (λ (start : ℕ). NoneOf film (take (start - i) (drop i cs))) (sym (get_or-set_other starts (key % 16777216 % start_places) (film % start_places) i 0 apart))
       (passed_more film (get_or starts (film % start_places) 0) (other_film film apart) (before film)))

@@ -5,6 +5,8 @@ ghost use Rattle.transfer_schedule.specs.Counts.{count_table};
 ghost use Rattle.transfer_schedule.specs.Transfers.{transfer_in};
 ghost use Rattle.transfer_schedule.specs.Fits.{TransferFits, most_transfers};
 
+use crate::entry::{destination_of, source_of};
+
 // Counts the transfers of some entries in a table of zeros, which comes and goes by value.
 pub(crate) fn count_transfers(table: [[u32; 9]; 9], entries: &[u64]) -> [[u32; 9]; 9]
     requires { (table ≡ count_table []) × Each TransferFits (map transfer_in entries.now)
@@ -13,9 +15,8 @@ pub(crate) fn count_transfers(table: [[u32; 9]; 9], entries: &[u64]) -> [[u32; 9
 {
     let mut counts = table;
     for entry in entries {
-        let above = *entry / 65536;
-        let source = (above % 256) as usize;
-        let destination = (above / 256 % 256) as usize;
+        let source = source_of(*entry);
+        let destination = destination_of(*entry);
         counts[source][destination] += 1;
     }
     counts

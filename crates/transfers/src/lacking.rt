@@ -1,6 +1,6 @@
 // The new copies that the old plan hasn't on the same disk: both lists of keys ascend, so that one
 // pass over both finds them.
-ghost use Rattle.std.specs.Prelude.{◌≡◌, [], map, ◌≤◌, ◌<◌, length, take, nat_le, position};
+ghost use Rattle.std.specs.Prelude.{◌≡◌, map, ◌≤◌, ◌<◌, length, take, nat_le, position};
 ghost use Rattle.arrayvec.specs.ArrayVec.{array_vec_len};
 ghost use Rattle.placement.specs.WellFormed.{Each};
 ghost use Rattle.transfer_schedule.specs.Stored.{is_stored};
@@ -10,17 +10,18 @@ ghost use Rattle.transfer_schedule.specs.Fits.{most_transfers};
 ghost use Rattle.transfers.specs.Keys.{stored_in, PassedTo};
 
 use crate::MOST_TRANSFERS;
+use crate::copy_key::CopyKey;
 use arrayvec::ArrayVec;
 
 // The first place whose key is not below `key`.
-fn first_not_below(keys: &[u64], key: u64) -> Option<usize>
+fn first_not_below(keys: &[CopyKey], key: CopyKey) -> Option<usize>
     ensures { result ≡ position (λ k. nat_le key k) keys.now }
 {
     keys.iter().position(|k| key <= *k)
 }
 
 // The first place from `at` on whose key is not below `key`, or the end.
-fn pass_lower(old: &[u64], at: usize, key: u64) -> usize
+fn pass_lower(old: &[CopyKey], at: usize, key: CopyKey) -> usize
     requires { (at ≤ length old.now) × Each (λ k. k < key) (take at old.now) }
     ensures { PassedTo old.now key result }
 {
@@ -32,22 +33,22 @@ fn pass_lower(old: &[u64], at: usize, key: u64) -> usize
 }
 
 // Whether the old plan has the copy of a key: the key stands at the place that was passed to.
-fn stands_at(old: &[u64], at: usize, key: u64) -> bool
+fn stands_at(old: &[CopyKey], at: usize, key: CopyKey) -> bool
     requires { InOrder (map stored_in old.now) × PassedTo old.now key at }
     ensures { result ≡ is_stored (stored_in key) (map stored_in old.now) }
 {
     at < old.len() && old[at] == key
 }
 
-// Puts the keys of the new copies that the old plan lacks into an empty list. The old keys before
-// `at` are below the next one.
-pub(crate) fn put_lacking(old: &[u64], new: &[u64], keys: &mut ArrayVec<u64, MOST_TRANSFERS>)
+// The keys of the new copies that the old plan lacks. The old keys before `at` are below the next
+// one.
+pub(crate) fn lacking(old: &[CopyKey], new: &[CopyKey]) -> ArrayVec<CopyKey, MOST_TRANSFERS>
     requires in_order { InOrder (map stored_in old.now) × InOrder (map stored_in new.now) }
     requires few { length new.now ≤ most_transfers }
-    requires empty { keys.old.items ≡ [] }
-    ensures keys_after { map stored_in keys.new.items ≡ lacking (map stored_in old.now) (map stored_in new.now) }
-    ensures upper_bound { array_vec_len keys.new ≤ length new.now }
+    ensures value { map stored_in result.items ≡ lacking (map stored_in old.now) (map stored_in new.now) }
+    ensures upper_bound { array_vec_len result ≤ length new.now }
 {
+    let mut keys = ArrayVec::new();
     let mut at = 0;
     for key in new {
         at = pass_lower(old, at, *key);
@@ -55,4 +56,5 @@ pub(crate) fn put_lacking(old: &[u64], new: &[u64], keys: &mut ArrayVec<u64, MOS
             keys.push(*key);
         }
     }
+    keys
 }

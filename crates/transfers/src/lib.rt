@@ -3,12 +3,14 @@
 #![tactic(auto)]
 
 mod answer; // answer.rt: what transfers answer
+mod copy_key; // copy_key.rt: the key of a stored copy
 mod count; // count.rt: the table of counts
+mod entry; // entry.rt: the entry of a transfer
 mod lacking; // lacking.rt: the new copies that the old plan lacks
 mod rounds; // rounds.rt: which ends are busy in which round
 mod schedule; // schedule.rt: the transfers one after the other
 mod sources; // sources.rt: where a film is copied from
-mod stored; // stored.rt: stored copies as numbers
+mod stored; // stored.rt: the keys of stored copies
 mod texts; // texts.rt: the two texts
 
 ghost use Rattle.std.specs.Prelude.{◌≡◌, [], OnErr};

@@ -5,26 +5,26 @@ ghost use Rattle.transfer_schedule.specs.Stored.{source_of};
 ghost use Rattle.transfer_schedule.specs.Fits.{most_transfers};
 ghost use Rattle.transfers.specs.Keys.{stored_in, NoneBefore, NoneBefore-prop, SearchStarts};
 
-use crate::stored::DISK;
+use crate::copy_key::CopyKey;
 
 // Films are noted by their remainder by this number.
 const REMAINDERS: u64 = 4_096;
 
 // Notes where the search for each film starts, by its remainder. The place
 // itself is what is noted, so that it is counted.
-pub(crate) fn note_starts(old: &[u64], starts: &mut [u16; 4_096])
+pub(crate) fn note_starts(old: &[CopyKey], starts: &mut [u16; 4_096])
     requires { length old.now ≤ most_transfers }
     ensures { SearchStarts starts.new (map stored_in old.now) }
 {
     for i in (0..old.len()).rev() {
-        starts[(old[i] % REMAINDERS) as usize] = i as u16;
+        starts[(old[i].film() % REMAINDERS) as usize] = i as u16;
     }
 }
 
 // The copies of an old plan, with the places from where each film is searched among them.
 #[derive(Clone, Copy)]
 pub(crate) struct Sources<'a> {
-    pub(crate) old: &'a [u64],
+    pub(crate) old: &'a [CopyKey],
     pub(crate) starts: &'a [u16; 4_096],
     ghost none_before: { NoneBefore starts.now (map stored_in old.now) } by { NoneBefore-prop starts.now (map stored_in old.now) },
 }
@@ -38,8 +38,8 @@ impl<'a> Sources<'a> {
         let start = self.starts[(film % REMAINDERS) as usize] as usize;
         let behind = &old[start.min(old.len())..];
         for key in behind {
-            if *key % DISK == film {
-                return *key / DISK;
+            if key.film() == film {
+                return key.disk();
             }
         }
         0

@@ -12,6 +12,7 @@ ghost use Rattle.transfers.specs.Keys.{stored_in, TablesFit, StoredText, StoredT
 ghost use Rattle.refusal.specs.Numbers.{verdict_of};
 
 use crate::MOST_TRANSFERS;
+use crate::copy_key::CopyKey;
 use crate::stored::stored_keys;
 use arrayvec::ArrayVec;
 use placement::PlanTables;
@@ -25,7 +26,7 @@ fn stored_copies(
     rack: &[u64],
     copies: &[u64],
     counts: &[u32],
-) -> ArrayVec<u64, MOST_TRANSFERS>
+) -> ArrayVec<CopyKey, MOST_TRANSFERS>
     requires tables_fit { TablesFit (disks_in rack.now) copies.now counts.now }
     requires rack_value { rack_accepted (disks_in rack.now) ≡ true }
     ensures { length rack.now ≤ most_transfer_disks
@@ -42,7 +43,7 @@ fn stored_copies(
 fn read_stored(
     text: &[u8],
     rack: &mut [u64; 64],
-) -> Result<(usize, ArrayVec<u64, MOST_TRANSFERS>), Refusal>
+) -> Result<(usize, ArrayVec<CopyKey, MOST_TRANSFERS>), Refusal>
     ensures { StoredText (text_verdict text.now) rack.new (verdict_of result) }
 {
     let mut own = PlanTables::new();
@@ -75,7 +76,7 @@ fn judge_racks(old: &[u64], new: &[u64]) -> Result<(), Refusal>
 pub(crate) fn read_texts(
     old: &[u8],
     new: &[u8],
-) -> Result<(ArrayVec<u64, MOST_TRANSFERS>, ArrayVec<u64, MOST_TRANSFERS>), Refusal>
+) -> Result<(ArrayVec<CopyKey, MOST_TRANSFERS>, ArrayVec<CopyKey, MOST_TRANSFERS>), Refusal>
     ensures { StoredTexts (texts_verdict old.now new.now) (verdict_of result) }
 {
     let mut old_rack = [0u64; 64];

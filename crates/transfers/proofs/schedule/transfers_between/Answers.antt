@@ -4,8 +4,6 @@ use mathlib.Core.List.{List, [], ◌∷◌, map}
 use Prim.Native.Nat.{ℕ, ◌≤◌}
 use native.Mathlib.Omega.{arith}
 use lib.ListN.{length, drop, length-map}
-use lib.Seq.{take_at}
-use Rattle.std.specs.List.{refill}
 use Rattle.placement.specs.WellFormed.{Each}
 use Rattle.transfer_schedule.specs.Stored.{StoredCopy}
 use Rattle.transfer_schedule.specs.Schedule.{lacking, Transfer, place_all, rounds_of, schedule as schedule_of}
@@ -42,46 +40,48 @@ module _ (old new keys : List ℕ) (olds : Each CopyFits (map stored_in old)) (n
   pub rounds_few : rounds_of (place_all (map stored_in old) [] (map stored_in keys)) ≤ 256
   rounds_few = omega (arith, ap rounds_of placed_is, rounds_most made fits)
 
-  -- The keys have become the entries.
+  -- The entries are those of all of them.
   pub made_from :
-      (written : List ℕ) (n rounds : ℕ) → written ≡ map transfer_entry (place_all (map stored_in old) [] (map stored_in keys))
-      → rounds ≡ rounds_of (place_all (map stored_in old) [] (map stored_in keys)) → n ≡ length (refill (length keys) keys written)
-      → TransfersMade made (refill (length keys) keys written) (record { refusal = 0; second = 0; values = schedule_size n rounds })
-  made_from written n rounds became last size =
-      let is : written ≡ map transfer_entry made = became ∙ ap (map transfer_entry) placed_is in
-      let long : length written ≡ length keys = ap length is ∙ length-map made transfer_entry ∙ number in
-      let whole : refill (length keys) keys written ≡ written = take_at written (drop (length written) keys) (length keys) long in
+      (entries : List ℕ) (n rounds : ℕ) → entries ≡ map transfer_entry (place_all (map stored_in old) [] (map stored_in keys))
+      → rounds ≡ rounds_of (place_all (map stored_in old) [] (map stored_in keys)) → n ≡ length entries
+      → TransfersMade made entries (record { refusal = 0; second = 0; values = schedule_size n rounds })
+  made_from entries n rounds placed last size =
+      let is : entries ≡ map transfer_entry made = placed ∙ ap (map transfer_entry) placed_is in
       record {
         told = ap₂ (λ (k r : ℕ). record { refusal = 0; second = 0; values = schedule_size k r })
-            (size ∙ ap length whole ∙ long ∙ sym number) (last ∙ ap rounds_of placed_is);
-        listed = whole ∙ is;
+            (size ∙ ap length is ∙ length-map made transfer_entry) (last ∙ ap rounds_of placed_is);
+        listed = is;
         fit = fits;
-        few = omega (arith, lacking_few, number);
+        few = omega (arith, lacking_few, few, number);
       }
 
 pub overflow_cast-result-2 : goal.overflow_cast-result-2
 overflow_cast-result-2 c =
-    let slice = c.as_mut_slice.ensures.value in
+    let slice = c.as_slice.ensures.value in
     omega (
       arith,
       c.place_all-rounds.ensures.value ∙ ap (λ (ks : List ℕ). rounds_of (place_all (map stored_in c.args.old.now) [] (map stored_in ks))) slice,
-      rounds_few c.args.old.now c.args.new.now c.put_lacking.new.keys.items c.requires.olds.0 c.requires.news.0 c.requires.news.2 c.put_lacking.ensures.upper_bound
-          c.put_lacking.ensures.keys_after,
+      rounds_few c.args.old.now c.args.new.now c.lacking-keys.result.items c.requires.olds.0 c.requires.news.0 c.requires.news.2 c.lacking-keys.ensures.upper_bound
+          c.lacking-keys.ensures.value,
     )
 
 pub returns : goal.returns
 returns c =
-    let slice = c.as_mut_slice.ensures.value in
-    made_from c.args.old.now c.args.new.now c.put_lacking.new.keys.items c.requires.olds.0 c.requires.news.0 c.requires.news.2 c.put_lacking.ensures.upper_bound
-    c.put_lacking.ensures.keys_after _ _ _
-    (c.place_all-rounds.ensures.keys_after ∙ ap (λ (ks : List ℕ). map transfer_entry (place_all (map stored_in c.args.old.now) [] (map stored_in ks))) slice)
+    let slice = c.as_slice.ensures.value in
+    made_from c.args.old.now c.args.new.now c.lacking-keys.result.items c.requires.olds.0 c.requires.news.0 c.requires.news.2 c.lacking-keys.ensures.upper_bound
+    c.lacking-keys.ensures.value _ _ _
+    (c.place_all-rounds.ensures.listed ∙ ap (λ (ks : List ℕ). map transfer_entry (place_all (map stored_in c.args.old.now) [] (map stored_in ks))) slice)
     (c.place_all-rounds.ensures.value ∙ ap (λ (ks : List ℕ). rounds_of (place_all (map stored_in c.args.old.now) [] (map stored_in ks))) slice)
     c.len.ensures.value
 
 pub place_all-rounds-requires : goal.place_all-rounds-requires
 place_all-rounds-requires c =
-    rw (c.as_mut_slice.ensures.value)
-    (c.requires.olds.0,
-    keys_fit c.args.old.now c.args.new.now c.put_lacking.new.keys.items c.requires.olds.0 c.requires.news.0 c.requires.news.2 c.put_lacking.ensures.upper_bound
-    c.put_lacking.ensures.keys_after,
-    omega (arith, c.put_lacking.ensures.upper_bound, c.requires.news.2))
+    let keys = c.lacking-keys.result.items in
+    rw (c.as_slice.ensures.value) (record {
+      copies_fit = (
+        c.requires.olds.0,
+        keys_fit c.args.old.now c.args.new.now keys c.requires.olds.0 c.requires.news.0 c.requires.news.2 c.lacking-keys.ensures.upper_bound c.lacking-keys.ensures.value,
+      );
+      few = omega (arith, c.lacking-keys.ensures.upper_bound, c.requires.news.2);
+      empty = c.requires.empty;
+    })

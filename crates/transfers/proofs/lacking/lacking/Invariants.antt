@@ -1,4 +1,4 @@
--- `transfers::put_lacking` meets its contract. The invariant: the keys so far are looked up, and what stands before `at` is below the next one.
+-- `transfers::lacking` meets its contract. The invariant: the keys so far are looked up, and what stands before `at` is below the next one.
 use mathlib.Core.Path.{◌≡◌}
 use mathlib.Core.List.{map}
 use Prim.Native.Nat.{◌≤◌, ◌<◌}
@@ -6,7 +6,7 @@ use lib.ListN.{length, take, get_or}
 use Rattle.placement.specs.WellFormed.{Each}
 use Rattle.transfer_schedule.specs.Schedule.{lacking}
 use Rattle.transfers.specs.Keys.{stored_in}
-use Rattle.transfers.proofs.lacking.put_lacking.Given as goal
+use Rattle.transfers.proofs.lacking.lacking.Given as goal
 
 abbrev pub invariant-loop-key : goal.invariant-loop-key
 invariant-loop-key l = record {
