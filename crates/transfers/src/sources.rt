@@ -10,14 +10,13 @@ use crate::copy_key::CopyKey;
 // Films are noted by their remainder by this number.
 const REMAINDERS: u64 = 4_096;
 
-// Notes where the search for each film starts, by its remainder. The place
-// itself is what is noted, so that it is counted.
+// Notes where the search for each film starts, by its remainder: at its first place.
 pub(crate) fn note_starts(old: &[CopyKey], starts: &mut [u16; 4_096])
     requires { length old.now ≤ most_transfers }
     ensures { SearchStarts starts.new (map stored_in old.now) }
 {
-    for i in (0..old.len()).rev() {
-        starts[(old[i].film() % REMAINDERS) as usize] = i as u16;
+    for (i, key) in old.iter().enumerate().rev() {
+        starts[(key.film() % REMAINDERS) as usize] = i as u16;
     }
 }
 
