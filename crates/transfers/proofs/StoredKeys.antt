@@ -1,15 +1,13 @@
 -- A rack of at most 8 disks has at most 256 slots, and keys are read back as their copies.
-use mathlib.Core.Path.{◌≡◌, refl, sym, ap, ap₂, ◌∙◌}
+use mathlib.Core.Path.{◌≡◌, refl, ap, ap₂, ◌∙◌}
 use mathlib.Core.Bool.{true}
 use mathlib.Core.List.{List, [], ◌∷◌, map}
 use Prim.Native.Nat.{ℕ, suc, ◌+◌, ◌*◌, ◌/◌, ◌%◌, ◌≤◌, ◌<◌}
 use native.Mathlib.Omega.{arith}
-use lib.ListN.{length, drop, length-map}
-use lib.Seq.{take_at}
+use lib.ListN.{length}
 use Rattle.placement.specs.Items.{Item}
 use Rattle.placement.specs.Copies.{copy_of}
 use Rattle.placement.specs.Rack.{Disk, all_slots, all_in_range, disk_in_range, disks_in_range, in_range, most_disks, most_slots, most_load, rack_accepted}
-use Rattle.placement.specs.Tables.{written}
 use Rattle.placement.specs.Held.{copies_from, marked_from}
 use Rattle.placement.specs.WellFormed.{Each}
 use Rattle.placement.proofs.Conjunctions.{both_true}

@@ -58,7 +58,7 @@ impl Rounds {
         ensures bounds { (1 ≤ result) × (result ≤ self.now.placed + 1) }
     {
         let from = self.full[source].max(self.full[destination]);
-        // The round is the answer and the place in both rows: two zipped rows would be counted too.
+        // Kept: `position` over two zipped rows proves, but needs four bounds of rows and a `match`.
         for r in from as usize..self.placed {
             if both_free(
                 self.busy[source * ROW + r],

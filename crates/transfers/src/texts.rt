@@ -22,11 +22,7 @@ use refusal::Refusal;
 const MOST_TRANSFER_DISKS: usize = 8;
 
 // The keys of a plan's stored copies; none where the disks are more than 8.
-fn stored_copies(
-    rack: &[u64],
-    copies: &[u64],
-    counts: &[u32],
-) -> ArrayVec<CopyKey, MOST_TRANSFERS>
+fn stored_copies(rack: &[u64], copies: &[u64], counts: &[u32]) -> ArrayVec<CopyKey, MOST_TRANSFERS>
     requires tables_fit { TablesFit (disks_in rack.now) copies.now counts.now }
     requires rack_value { rack_accepted (disks_in rack.now) ≡ true }
     ensures { length rack.now ≤ most_transfer_disks
@@ -76,7 +72,13 @@ fn judge_racks(old: &[u64], new: &[u64]) -> Result<(), Refusal>
 pub(crate) fn read_texts(
     old: &[u8],
     new: &[u8],
-) -> Result<(ArrayVec<CopyKey, MOST_TRANSFERS>, ArrayVec<CopyKey, MOST_TRANSFERS>), Refusal>
+) -> Result<
+    (
+        ArrayVec<CopyKey, MOST_TRANSFERS>,
+        ArrayVec<CopyKey, MOST_TRANSFERS>,
+    ),
+    Refusal,
+>
     ensures { StoredTexts (texts_verdict old.now new.now) (verdict_of result) }
 {
     let mut old_rack = [0u64; 64];

@@ -12,9 +12,15 @@ transfers_between-requires c =
     let new = c.in_ok-old_keys.new_keys in
     let r = both_as _ old new c.in_ok-old_keys.ensures in
     rw (c.as_slice.ensures.value, c.as_slice-2.ensures.value) (record {
-      olds = (olds_fit a.old.now a.new.now old.items new.items r, olds_ordered a.old.now a.new.now old.items new.items r,
-          omega (arith, c.as_slice.ensures.fits, ap length c.as_slice.ensures.value));
-      news = (news_fit a.old.now a.new.now old.items new.items r, news_ordered a.old.now a.new.now old.items new.items r,
-          omega (arith, c.as_slice-2.ensures.fits, ap length c.as_slice-2.ensures.value));
+      olds = (
+        olds_fit a.old.now a.new.now old.items new.items r,
+        olds_ordered a.old.now a.new.now old.items new.items r,
+        omega (arith, c.as_slice.ensures.fits, ap length c.as_slice.ensures.value),
+      );
+      news = (
+        news_fit a.old.now a.new.now old.items new.items r,
+        news_ordered a.old.now a.new.now old.items new.items r,
+        omega (arith, c.as_slice-2.ensures.fits, ap length c.as_slice-2.ensures.value),
+      );
       empty = c.requires;
     })

@@ -6,7 +6,7 @@ use Rattle.transfers.proofs.Passing.{passed_stands, passed_end}
 use Rattle.transfers.proofs.lacking.stands_at.Goals as goal
 
 pub returns-then-at-old : goal.returns-then-at-old
-returns-then-at-old c = 
+returns-then-at-old c =
     rw (c.eq.ensures, key_at _ _ _ c.if-at-old.true c.index-old-at.is) (passed_stands _ _ _ c.requires.1 c.requires.0 c.if-at-old.true)
 
 pub returns-else-at-old : goal.returns-else-at-old

@@ -3,9 +3,8 @@ use mathlib.Core.Path.{◌≡◌, sym, ap, ap₂, subst, ◌∙◌}
 use mathlib.Core.List.{List, [], ◌∷◌, map}
 use Prim.Native.Nat.{ℕ, ◌≤◌}
 use native.Mathlib.Omega.{arith}
-use lib.ListN.{length, drop, length-map}
+use lib.ListN.{length, length-map}
 use Rattle.placement.specs.WellFormed.{Each}
-use Rattle.transfer_schedule.specs.Stored.{StoredCopy}
 use Rattle.transfer_schedule.specs.Schedule.{lacking, Transfer, place_all, rounds_of, schedule as schedule_of}
 use Rattle.transfer_schedule.specs.Fits.{CopyFits, TransferFits}
 use Rattle.transfer_schedule.specs.Transfers.{transfer_entry, schedule_size}

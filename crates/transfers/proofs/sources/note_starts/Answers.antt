@@ -1,12 +1,11 @@
 -- `transfers::note_starts` meets its contract. The invariant: the starts are noted for the copies behind those that are left.
 use mathlib.Core.Path.{◌≡◌, sym, ap, subst, ◌∙◌}
-use mathlib.Core.List.{List, ◌∷◌, map}
-use Prim.Native.Nat.{ℕ, ◌+◌, ◌%◌}
+use mathlib.Core.List.{map}
 use native.Mathlib.Omega.{arith}
-use lib.ListN.{length, take, length-set, length-map}
+use lib.ListN.{length, length-set, length-map}
 use lib.Seq.{take-length}
 use Rattle.std.specs.Slice.Iter.{iter_rest}
-use Rattle.transfers.specs.Keys.{stored_in, start_places}
+use Rattle.transfers.specs.Keys.{stored_in}
 use Rattle.transfers.proofs.Looks.{copy_here}
 use Rattle.transfers.proofs.Starting.{StartsFrom, starts_none, starts_all, starts_more, LastLeft, last_left}
 use Rattle.transfers.proofs.sources.note_starts.Goals as goal

@@ -10,7 +10,6 @@ use Rattle.std.specs.Prelude.{Ok, Err}
 use Rattle.std.proofs.lemmas.Result.{err_from_is_err_and}
 use Rattle.refusal.specs.Verdict.{Verdict, given}
 use Rattle.refusal.specs.Numbers.{refusal_of}
-use Rattle.placement.specs.Copies.{Copy}
 use Rattle.placement.specs.Rack.{Disk, most_disks, rack_accepted}
 use Rattle.placement.specs.Packed.{disks_in}
 use Rattle.placement.specs.Tables.{Tables, tables, own_tables}
