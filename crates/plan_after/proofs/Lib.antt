@@ -6,3 +6,4 @@ pub mod AfterPromise
 pub mod Steps
 pub mod LongRacks
 pub mod AfterExamplesHold
+pub mod PlanAnswers

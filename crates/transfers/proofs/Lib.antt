@@ -10,5 +10,6 @@ pub mod WorkedOut
 pub mod StoredKeys
 pub mod ReadSteps
 pub mod TextsSteps
+pub mod RefusedAnswers
 pub mod FullRounds
 pub mod AnswersHold
