@@ -64,6 +64,7 @@ fn marks_accepted(copies: &[u64]) -> bool
 }
 
 // Whether a well-formed plan can have these copies on a disk of so many slots and streams.
+// Kept: slots and streams as two, since this signature is public, and `copies_fit` has its own.
 pub fn disk_accepted(slots: Slots, streams: Streams, copies: &[u64]) -> bool
     ensures { result ≡ copies_accepted (disk slots.0 streams.0) (copies_in copies.now) }
 {
