@@ -38,7 +38,7 @@ fn mark_places(places: &mut [u64], held: &[u64])
     }
 }
 
-// Marks the places of the disks that held something before.
+// Marks the places of the disks that held something before, each by what it held.
 pub(crate) fn mark_disks(rack: &[u64], copies: &mut [u64], held: &HeldPlan)
     requires rack_in_bounds { all_slots (disks_in rack.now) ≤ length copies.old }
     requires held_before { HeldBefore (disks_in held.now.rack.now) held.now.copies.now held.now.counts.now }
@@ -48,14 +48,11 @@ pub(crate) fn mark_disks(rack: &[u64], copies: &mut [u64], held: &HeldPlan)
 {
     let mut first = 0usize;
     let mut held_first = 0usize;
-    for (d, disk) in rack.iter().enumerate() {
-        if held.rack.len() <= d {
-            return;
-        }
+    for ((disk, held_disk), count) in rack.iter().zip(held.rack).zip(held.counts) {
         let end = first + disk_slots(*disk).0 as usize;
-        let held_end = held_first + held.counts[d] as usize;
+        let held_end = held_first + *count as usize;
         mark_places(&mut copies[first..end], &held.copies[held_first..held_end]);
         first = end;
-        held_first += disk_slots(held.rack[d]).0 as usize;
+        held_first += disk_slots(*held_disk).0 as usize;
     }
 }

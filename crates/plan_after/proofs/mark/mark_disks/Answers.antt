@@ -1,107 +1,157 @@
--- `plan_after::mark_disks` meets its contract. The invariant: what marking from disk `d` on leaves is what marking all disks leaves.
-use mathlib.Core.Path.{◌≡◌, refl, sym, ap, ap₂, ◌∙◌}
-use mathlib.Core.List.{List, map}
-use Prim.Native.Nat.{ℕ, ◌+◌, ◌-◌, ◌≤◌, ◌<◌}
+-- `plan_after::mark_disks` meets its contract: each disk is marked by what it held, until a rack ends.
+use mathlib.Core.Path.{◌≡◌, refl, sym, ap, ap₂, subst, ◌∙◌}
+use mathlib.Core.Bool.{true}
+use mathlib.Core.Logic.{◌⊎◌, inl, inr}
+use mathlib.Core.List.{List, [], ◌∷◌, map}
+use Prim.Native.Nat.{ℕ, ◌+◌, ◌-◌, ◌≤◌}
 use native.Mathlib.Omega.{arith}
-use lib.ListN.{length, take, drop, get_or}
-use borrow.Rule.Slice.PartMut.{same_len_mid}
+use borrow.Rule.Slice.PartMut.{put_mid, same_len_mid}
+use lib.ListN.{length, take, drop, length-drop}
+use lib.Seq.{drop-drop}
+use Rattle.std.specs.Slice.Iter.{iter_rest}
 use Rattle.placement.specs.Items.{Item}
 use Rattle.placement.specs.Copies.{unmarked, layout_of}
-use Rattle.placement.specs.Rack.{Disk, all_slots}
 use Rattle.placement.specs.Packed.{disk_in, disks_in}
 use Rattle.placement.specs.Tables.{copies_in}
 use Rattle.placement.specs.Held.{marked_from}
-use Rattle.writer.proofs.DiskParts.{no_disk, count_place, first_room, count_within, first_next, copies_next}
-use Rattle.placement.proofs.Offsets.{offset}
-use Rattle.plan_after.specs.Held.{HeldBefore}
-use Rattle.plan_after.specs.Marking.{marked_places}
-use Rattle.plan_after.proofs.Marks.{marks_on, marks_done, none_held, disks_next, slots_room, marks_more}
-use Rattle.plan_after.proofs.mark.mark_disks.Invariants.{held_from}
+use Rattle.placement.proofs.Conjunctions.{both_true}
+use Rattle.plan_text.specs.Held.{unused_zero_from}
+use Rattle.writer.specs.Call.{CopyRoom}
+use Rattle.writer.proofs.DiskParts.{count_within}
+use Rattle.plan_after.specs.Marking.{marked_entry, marked_places}
+use Rattle.plan_after.proofs.Marks.{marks_on, marks_done, none_held, marks_more}
+use Rattle.plan_after.proofs.mark.mark_disks.Invariants.{MarksLeft}
 use Rattle.plan_after.proofs.mark.mark_disks.Goals as goal
 
--- The disk of a turn has places in the copy table, a count, and places with as many copies at most in the tables of the earlier plan.
-record Roomy (slots heldslots count first heldfirst d places heldplaces counts : ℕ) : Type 0 where
+-- A disk that is left: its places are in the copy table, and its copies among those of the earlier plan.
+pub record Roomy (slots held_slots count first held_first places held_places : ℕ) : Type 0 where
   pub room : first + slots ≤ places
-  pub held_room : heldfirst + heldslots ≤ heldplaces
-  pub few : count ≤ heldslots
-  pub counted : d < counts
+  pub held_room : held_first + held_slots ≤ held_places
+  pub few : count ≤ held_slots
 
-roomy_at :
-    (rack heldrack copies copies' heldcopies heldcounts : List ℕ) (d first heldfirst : ℕ)
-    → d < length rack → d < length heldrack → all_slots (disks_in rack) ≤ length copies
-    → HeldBefore (disks_in heldrack) heldcopies heldcounts → first ≡ offset (disks_in rack) d
-    → heldfirst ≡ offset (disks_in heldrack) d → length copies' ≡ length copies
-    → Roomy (disk_in (get_or rack d 0)).slots (disk_in (get_or heldrack d 0)).slots (get_or heldcounts d 0) first heldfirst d
-    (length copies') (length heldcopies) (length heldcounts)
-roomy_at rack heldrack copies copies' heldcopies heldcounts d first heldfirst more heldmore wide held at held_at same = record {
-  room = omega (arith, at, same, slots_room rack d more copies wide);
-  held_room = omega (arith, held_at, first_room heldrack d heldmore _ refl heldcopies heldcounts held.room);
-  few = count_within heldrack d heldmore _ refl heldcopies heldcounts held.unused;
-  counted = count_place heldrack d heldmore _ refl heldcopies heldcounts held.room;
-}
+module _ (whole : List ℕ) (disk held_disk count : ℕ) (rack held counts : List ℕ) (first held_first : ℕ) (now copies : List ℕ)
+    (inside : held_first ≤ length copies)
+    (m : MarksLeft whole (disk ∷ rack) (held_disk ∷ held) (count ∷ counts) first now (drop held_first copies)) where
+  pub roomy : Roomy (disk_in disk).slots (disk_in held_disk).slots count first held_first (length now) (length copies)
+  roomy = record {
+    room = omega (arith, m.room);
+    held_room = omega (arith, m.held_room.copy_places, length-drop held_first copies, inside);
+    few = count_within (held_disk ∷ held) 0 (omega arith) _ refl (drop held_first copies) (count ∷ counts) m.unused;
+  }
 
-pub returns-then-held-d : goal.returns-then-held-d
-returns-then-held-d c =
-    let a = c.args in
-    let ended = no_disk a.held.now.rack.now c.loop-d.d c.if-held-d.true in
-    marks_done (drop c.loop-d.d (disks_in a.rack.now)) c.loop-d.copies (held_from a.held.now.rack.now a.held.now.copies.now a.held.now.counts.now c.loop-d.held_first c.loop-d.d) c.loop-d.first
-    (ap (λ (ds : List Disk). marked_places (drop c.loop-d.d (disks_in a.rack.now)) (drop c.loop-d.first c.loop-d.copies)
-    (layout_of (marked_from ds (drop c.loop-d.held_first a.held.now.copies.now) (drop c.loop-d.d a.held.now.counts.now)))) ended
-    ∙ none_held (drop c.loop-d.d (disks_in a.rack.now)) (drop c.loop-d.first c.loop-d.copies))
-    ∙ c.loop-d.invariant.3
+  -- It is marked.
+  pub left_more :
+      (size slots held_slots n : ℕ) (part : List ℕ) → size ≡ slots → n ≡ count → slots ≡ (disk_in disk).slots → held_slots ≡ (disk_in held_disk).slots
+      → part ≡ map (marked_entry (map unmarked (copies_in (take n (drop held_first copies))))) (take size (drop first now))
+      → length (put_mid first size now part) ≡ length now
+      → MarksLeft whole rack held counts (first + slots) (put_mid first size now part) (drop (held_first + held_slots) copies)
+  left_more size slots held_slots n part is counted slots_is held_is marked long =
+      let behind : drop held_slots (drop held_first copies) ≡ drop (held_first + held_slots) copies = drop-drop held_slots held_first copies in
+      let next : drop (disk_in held_disk).slots (drop held_first copies) ≡ drop (held_first + held_slots) copies =
+      ap (λ (k : ℕ). drop k (drop held_first copies)) (sym held_is) ∙ behind in
+      record {
+        room = omega (arith, m.room, long, slots_is);
+        held_room = record {
+          copy_places = omega (arith, m.held_room.copy_places, length-drop held_first copies, length-drop (held_first + held_slots) copies, held_is);
+          count_places = omega (arith, m.held_room.count_places);
+        };
+        unused = ap (λ (cs : List ℕ). unused_zero_from (disks_in held) cs counts) (sym next) ∙ (both_true _ (unused_zero_from (disks_in held) (drop (disk_in held_disk).slots (drop held_first copies)) counts) m.unused).1;
+        marks = marks_more (disk_in disk) (disks_in rack) (map unmarked (copies_in (take n (drop held_first copies))))
+            (layout_of (marked_from (disks_in held) (drop (held_first + held_slots) copies) counts)) now part first size (first + slots) (is ∙ slots_is)
+            (ap (λ (k : ℕ). first + k) (sym is)) (omega (arith, roomy, slots_is)) marked
+            ∙ ap₂ (λ (k : ℕ) (cs : List ℕ). marks_on (disk_in disk ∷ disks_in rack) now (map unmarked (copies_in (take k (drop held_first copies))) ∷ layout_of (marked_from (disks_in held) cs counts)) first)
+            counted (sym next)
+            ∙ m.marks;
+      }
+
+-- Where a rack or the counts end, all is marked.
+ended :
+    (whole rack held counts : List ℕ) (first : ℕ) (now copies : List ℕ) → MarksLeft whole rack held counts first now copies
+    → (length rack ≡ 0) ⊎ (length held ≡ 0) ⊎ (length counts ≡ 0) → now ≡ whole
+ended whole [] held counts first now copies m end = marks_done [] now (layout_of (marked_from (disks_in held) copies counts)) first refl ∙ m.marks
+ended whole (disk ∷ rack) [] counts first now copies m end =
+    marks_done (disks_in (disk ∷ rack)) now [] first (none_held (disks_in (disk ∷ rack)) (drop first now)) ∙ m.marks
+ended whole (disk ∷ rack) (held_disk ∷ held) [] first now copies m end = absurd (omega (arith, m.held_room.count_places))
+ended whole (disk ∷ rack) (held_disk ∷ held) (count ∷ counts) first now copies m (inl e) = absurd (omega (arith, e))
+ended whole (disk ∷ rack) (held_disk ∷ held) (count ∷ counts) first now copies m (inr (inl e)) = absurd (omega (arith, e))
+ended whole (disk ∷ rack) (held_disk ∷ held) (count ∷ counts) first now copies m (inr (inr e)) = absurd (omega (arith, e))
+
+-- The disk of a turn is the first one that is left.
+turn :
+    (whole rack held counts rack' held' counts' : List ℕ) (disk held_disk count first : ℕ) (now copies : List ℕ)
+    → rack ≡ disk ∷ rack' → held ≡ held_disk ∷ held' → counts ≡ count ∷ counts' → MarksLeft whole rack held counts first now copies
+    → MarksLeft whole (disk ∷ rack') (held_disk ∷ held') (count ∷ counts') first now copies
+turn whole rack held counts rack' held' counts' disk held_disk count first now copies er eh ec m =
+    subst (λ (r : List ℕ). MarksLeft whole r (held_disk ∷ held') (count ∷ counts') first now copies) er
+    (subst (λ (h : List ℕ). MarksLeft whole rack h (count ∷ counts') first now copies) eh
+    (subst (λ (n : List ℕ). MarksLeft whole rack held n first now copies) ec m))
 
 pub overflow_add-end : goal.overflow_add-end
 overflow_add-end c =
-    let roomy = roomy_at c.args.rack.now c.args.held.now.rack.now c.args.copies.now c.loop-d.copies c.args.held.now.copies.now c.args.held.now.counts.now c.loop-d.d c.loop-d.first c.loop-d.held_first c.loop-d-test.true c.if-held-d.false c.requires.rack_in_bounds c.requires.held_before c.loop-d.invariant.0 c.loop-d.invariant.1 c.loop-d.invariant.2 in omega (arith, roomy, c.disk_slots.ensures)
+    let s = c.in-Some.ensures.steps in
+    let r = roomy _ _ _ _ _ _ _ _ _ _ _ c.loop-disk.invariant.0 (turn _ _ _ _ _ _ _ _ _ _ _ _ _ s.0.0 s.0.1 s.1 c.loop-disk.invariant.1) in
+    omega (arith, r, c.disk_slots.ensures)
 
 pub overflow_add-held_end : goal.overflow_add-held_end
 overflow_add-held_end c =
-    let roomy = roomy_at c.args.rack.now c.args.held.now.rack.now c.args.copies.now c.loop-d.copies c.args.held.now.copies.now c.args.held.now.counts.now c.loop-d.d c.loop-d.first c.loop-d.held_first c.loop-d-test.true c.if-held-d.false c.requires.rack_in_bounds c.requires.held_before c.loop-d.invariant.0 c.loop-d.invariant.1 c.loop-d.invariant.2 in omega (arith, roomy)
+    let s = c.in-Some.ensures.steps in
+    let r = roomy _ _ _ _ _ _ _ _ _ _ _ c.loop-disk.invariant.0 (turn _ _ _ _ _ _ _ _ _ _ _ _ _ s.0.0 s.0.1 s.1 c.loop-disk.invariant.1) in
+    omega (arith, r)
 
 pub offset_bounds-copies-first : goal.offset_bounds-copies-first
 offset_bounds-copies-first c =
-    let roomy = roomy_at c.args.rack.now c.args.held.now.rack.now c.args.copies.now c.loop-d.copies c.args.held.now.copies.now c.args.held.now.counts.now c.loop-d.d c.loop-d.first c.loop-d.held_first c.loop-d-test.true c.if-held-d.false c.requires.rack_in_bounds c.requires.held_before c.loop-d.invariant.0 c.loop-d.invariant.1 c.loop-d.invariant.2 in omega (arith, roomy, c.disk_slots.ensures)
+    let s = c.in-Some.ensures.steps in
+    let r = roomy _ _ _ _ _ _ _ _ _ _ _ c.loop-disk.invariant.0 (turn _ _ _ _ _ _ _ _ _ _ _ _ _ s.0.0 s.0.1 s.1 c.loop-disk.invariant.1) in
+    omega (arith, r, c.disk_slots.ensures)
 
 pub slice_bounds-mark_places-end : goal.slice_bounds-mark_places-end
 slice_bounds-mark_places-end c =
-    let roomy = roomy_at c.args.rack.now c.args.held.now.rack.now c.args.copies.now c.loop-d.copies c.args.held.now.copies.now c.args.held.now.counts.now c.loop-d.d c.loop-d.first c.loop-d.held_first c.loop-d-test.true c.if-held-d.false c.requires.rack_in_bounds c.requires.held_before c.loop-d.invariant.0 c.loop-d.invariant.1 c.loop-d.invariant.2 in omega (arith, roomy, c.disk_slots.ensures)
+    let s = c.in-Some.ensures.steps in
+    let r = roomy _ _ _ _ _ _ _ _ _ _ _ c.loop-disk.invariant.0 (turn _ _ _ _ _ _ _ _ _ _ _ _ _ s.0.0 s.0.1 s.1 c.loop-disk.invariant.1) in
+    omega (arith, r, c.disk_slots.ensures)
 
 pub offset_bounds-held-held_first : goal.offset_bounds-held-held_first
 offset_bounds-held-held_first c =
-    let roomy = roomy_at c.args.rack.now c.args.held.now.rack.now c.args.copies.now c.loop-d.copies c.args.held.now.copies.now c.args.held.now.counts.now c.loop-d.d c.loop-d.first c.loop-d.held_first c.loop-d-test.true c.if-held-d.false c.requires.rack_in_bounds c.requires.held_before c.loop-d.invariant.0 c.loop-d.invariant.1 c.loop-d.invariant.2 in omega (arith, roomy)
+    let s = c.in-Some.ensures.steps in
+    let r = roomy _ _ _ _ _ _ _ _ _ _ _ c.loop-disk.invariant.0 (turn _ _ _ _ _ _ _ _ _ _ _ _ _ s.0.0 s.0.1 s.1 c.loop-disk.invariant.1) in
+    omega (arith, r)
 
-pub slice_bounds-mark_places-end-in-loop-d : goal.slice_bounds-mark_places-end-in-loop-d
-slice_bounds-mark_places-end-in-loop-d c =
-    let roomy = roomy_at c.args.rack.now c.args.held.now.rack.now c.args.copies.now c.loop-d.copies c.args.held.now.copies.now c.args.held.now.counts.now c.loop-d.d c.loop-d.first c.loop-d.held_first c.loop-d-test.true c.if-held-d.false c.requires.rack_in_bounds c.requires.held_before c.loop-d.invariant.0 c.loop-d.invariant.1 c.loop-d.invariant.2 in omega (arith, roomy)
+pub slice_bounds-mark_places-end-in-loop-disk : goal.slice_bounds-mark_places-end-in-loop-disk
+slice_bounds-mark_places-end-in-loop-disk c =
+    let s = c.in-Some.ensures.steps in
+    let r = roomy _ _ _ _ _ _ _ _ _ _ _ c.loop-disk.invariant.0 (turn _ _ _ _ _ _ _ _ _ _ _ _ _ s.0.0 s.0.1 s.1 c.loop-disk.invariant.1) in
+    omega (arith, r)
 
 pub overflow_add-held_first : goal.overflow_add-held_first
 overflow_add-held_first c =
-    let roomy = roomy_at c.args.rack.now c.args.held.now.rack.now c.args.copies.now c.loop-d.copies c.args.held.now.copies.now c.args.held.now.counts.now c.loop-d.d c.loop-d.first c.loop-d.held_first c.loop-d-test.true c.if-held-d.false c.requires.rack_in_bounds c.requires.held_before c.loop-d.invariant.0 c.loop-d.invariant.1 c.loop-d.invariant.2 in omega (arith, roomy, c.disk_slots-in-loop-d.ensures)
+    let s = c.in-Some.ensures.steps in
+    let r = roomy _ _ _ _ _ _ _ _ _ _ _ c.loop-disk.invariant.0 (turn _ _ _ _ _ _ _ _ _ _ _ _ _ s.0.0 s.0.1 s.1 c.loop-disk.invariant.1) in
+    omega (arith, r, c.disk_slots-in-loop-disk.ensures)
 
-pub loop-d-preserved : goal.loop-d-preserved
-loop-d-preserved c =
-    let rack : List ℕ = c.args.rack.now in
-    let heldrack : List ℕ = c.args.held.now.rack.now in
-    let heldcopies : List ℕ = c.args.held.now.copies.now in
-    let heldcounts : List ℕ = c.args.held.now.counts.now in
-    let d : ℕ = c.loop-d.d in
-    let heldmore : d < length heldrack = c.if-held-d.false in
-    let roomy = roomy_at c.args.rack.now c.args.held.now.rack.now c.args.copies.now c.loop-d.copies c.args.held.now.copies.now c.args.held.now.counts.now c.loop-d.d c.loop-d.first c.loop-d.held_first c.loop-d-test.true c.if-held-d.false c.requires.rack_in_bounds c.requires.held_before c.loop-d.invariant.0 c.loop-d.invariant.1 c.loop-d.invariant.2 in
-    let more = c.loop-d-test.true in
-    let part = c.mark_places.new.places in
-    let size = (c.loop-d.first + c.disk_slots.result.0) - c.loop-d.first in
-    let wide : size ≡ (disk_in (get_or rack c.loop-d.d 0)).slots = omega (arith, c.disk_slots.ensures) in
-    let ends : c.loop-d.first + c.disk_slots.result.0 ≡ c.loop-d.first + size = omega arith in
-    let room : c.loop-d.first + c.disk_slots.result.0 ≤ length c.loop-d.copies = omega (arith, roomy, c.disk_slots.ensures) in
-    let h = map unmarked (copies_in (take (c.loop-d.held_first + get_or heldcounts c.loop-d.d 0 - c.loop-d.held_first) (drop c.loop-d.held_first heldcopies))) in
-    let heldnext = held_from heldrack heldcopies heldcounts (c.loop-d.held_first + c.disk_slots-in-loop-d.result.0) (c.loop-d.d + 1) in (
-      omega (arith, c.loop-d.invariant.0, first_next rack c.loop-d.d more c.disk_slots.result.0 c.disk_slots.ensures),
-      omega (arith, c.loop-d.invariant.1, first_next heldrack c.loop-d.d heldmore c.disk_slots-in-loop-d.result.0 c.disk_slots-in-loop-d.ensures),
-      same_len_mid c.loop-d.first size c.loop-d.copies part c.mark_places.auto.places ∙ c.loop-d.invariant.2,
-      marks_more (disk_in (get_or rack c.loop-d.d 0)) (drop (c.loop-d.d + 1) (disks_in rack)) h heldnext c.loop-d.copies part c.loop-d.first size
-          (c.loop-d.first + c.disk_slots.result.0) wide ends room c.mark_places.ensures
-          ∙ ap₂ (λ (ds : List Disk) (held : List (List Item)). marks_on ds c.loop-d.copies held c.loop-d.first) (sym (disks_next rack c.loop-d.d more))
-          (sym (ap layout_of (copies_next heldrack c.loop-d.d heldmore c.disk_slots-in-loop-d.result.0 c.disk_slots-in-loop-d.ensures heldcopies heldcounts
-          roomy.counted c.loop-d.held_first)))
-          ∙ c.loop-d.invariant.3,
+pub loop-disk-preserved : goal.loop-disk-preserved
+loop-disk-preserved c =
+    let s = c.in-Some.ensures.steps in
+    let inside = c.loop-disk.invariant.0 in
+    let m = turn _ _ _ _ _ _ _ _ _ _ _ _ _ s.0.0 s.0.1 s.1 c.loop-disk.invariant.1 in
+    let r = roomy _ _ _ _ _ _ _ _ _ _ _ inside m in
+    let first = c.loop-disk.first in
+    let slots = c.disk_slots.result.0 in
+    let held_first = c.loop-disk.held_first in
+    let count = c.in-Some.count.now in
+    let size : (first + slots) - first ≡ slots = omega arith in
+    let counted : (held_first + count) - held_first ≡ count = omega arith in (
+      omega (arith, r, c.disk_slots-in-loop-disk.ensures),
+      left_more _ _ _ _ _ _ _ _ _ _ _ inside m _ slots c.disk_slots-in-loop-disk.result.0 _ c.mark_places.new.places size counted c.disk_slots.ensures
+          c.disk_slots-in-loop-disk.ensures c.mark_places.ensures (same_len_mid first _ c.loop-disk.copies c.mark_places.new.places c.mark_places.auto.places),
     )
+
+pub returns : goal.returns
+returns c =
+    let left = c.loop-disk.invariant.1 in
+    elim c.in-None.ensures.steps [
+      | inl u ↦ elim u.1 [
+        | inl v ↦ ended _ _ _ _ _ _ _ left (inl v.1.0)
+        | inr v ↦ ended _ _ _ _ _ _ _ left (inr (inl v.1.0))
+      ]
+      | inr u ↦ ended _ _ _ _ _ _ _ left (inr (inr u.1.0))
+    ]
