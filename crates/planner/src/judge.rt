@@ -7,7 +7,7 @@ ghost use Rattle.placement.specs.Planning.{call, verdict};
 ghost use Rattle.placement.specs.LentTables.{held};
 
 use demand_list::{judge_list, judge_shape};
-use placement::{LentTables, judge_rack, room};
+use placement::{LentTables, judge_rack};
 use refusal::Refusal;
 
 // The first refusal of planning that applies. Not inlined, so that its table of seen films and the
@@ -18,13 +18,7 @@ pub(crate) fn judge(rack: &[u64], list: &[u8], tables: &LentTables) -> Result<()
 {
     judge_rack(rack)?;
     judge_shape(list)?;
-    if !room(
-        rack,
-        list.len() / 8,
-        tables.copies.len(),
-        tables.counts.len(),
-        tables.left.len(),
-    ) {
+    if !tables.has_room(rack, list.len() / 8) {
         return Err(Refusal::TablesTooShort);
     }
     judge_list(list)

@@ -66,13 +66,13 @@ returns-in_err-judge_shape c =
     let t = held a.tables.now in
     shape_refused (disks_in a.rack.now) a.list.now t accepted_rack _ refl c.in_err-judge_shape.ensures)
 
-pub returns-then-not-room : goal.returns-then-not-room
-returns-then-not-room c =
+pub returns-then-not-has_room : goal.returns-then-not-has_room
+returns-then-not-has_room c =
     let accepted_rack : rack_judged {A = Unit {0}} (disks_in c.args.rack.now) (given tt) ≡ given tt = sym c.in_ok-judge_rack.ensures in
     let a = c.args in
     let t = held a.tables.now in
     room_refused (disks_in a.rack.now) a.list.now t accepted_rack (sym c.in_ok-judge_shape.ensures)
-    (sym c.room.ensures ∙ c.if-not-room.true)
+    (sym c.has_room.ensures ∙ c.if-not-has_room.true)
 
 pub returns : goal.returns
 returns c =
@@ -81,4 +81,4 @@ returns c =
     let t = held a.tables.now in
     c.judge_list.ensures
     ∙ list_decides (disks_in a.rack.now) a.list.now t accepted_rack
-    (sym c.room.ensures ∙ c.if-not-room.false)
+    (sym c.has_room.ensures ∙ c.if-not-has_room.false)
