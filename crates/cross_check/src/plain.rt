@@ -30,12 +30,6 @@ pub(crate) struct Entry {
     pub(crate) viewers: u32,
 }
 
-// What stands in a place of a table where there is no copy or left film.
-const EMPTY: Entry = Entry {
-    film: 0,
-    viewers: 0,
-};
-
 // How many places of each table are lent.
 #[derive(Clone, Copy, Debug)]
 pub(crate) struct Lengths {
@@ -52,8 +46,8 @@ pub(crate) struct Call<'a> {
     pub(crate) lent: Lengths,
 }
 
-// A refusal's number and second number, as the documents have them. They are numbers on purpose:
-// that the library's refusals have these is part of what is compared.
+// A refusal's number and second number, as the documents have them.
+// Kept: numbers on purpose, since that the library's refusals have these is what is compared.
 #[derive(Clone, Copy, Debug, PartialEq, Eq)]
 pub(crate) struct Refused(pub(crate) u32, pub(crate) u64);
 
@@ -139,7 +133,7 @@ fn count_table(disks: &[FilledDisk]) -> Result<CountTable, Full> {
 
 // Appends empty places to a table that is shorter than `len`.
 fn fill_up<const N: usize>(table: &mut ArrayVec<Entry, N>, len: usize) -> Result<(), Full> {
-    table.extend(repeat_n(EMPTY, len.saturating_sub(table.len())))?;
+    table.extend(repeat_n(Entry::default(), len.saturating_sub(table.len())))?;
     Ok(())
 }
 

@@ -19,6 +19,7 @@ use refusal::Refusal;
 // Plans for a rack of disks, one number each, from the bytes of a demand list and of an earlier
 // plan's text. The plan goes into the lent tables, each copy marked whose film the same disk held
 // in the earlier plan. A refusal changes none of them.
+// Kept: the three tables as slices, since this signature is public.
 pub fn plan_after(
     rack: &[u64],
     list: &[u8],
@@ -35,6 +36,7 @@ pub fn plan_after(
     ensures unchanged { OnErr result
         (tables copies.new counts.new left.new ≡ tables copies.old counts.old left.old) }
 {
+    // Kept: `reader::read` takes a lent slice, and answers how many disks are in it.
     let mut rack_before = [0u64; 64];
     let mut before = PlanTables::new();
     let read = reader::read(

@@ -12,6 +12,7 @@ const SHORT: usize = 1_024;
 
 // Reads as much of a file as the space holds. A missing file is said so and has no bytes, and a
 // name that is no text is one of a missing file.
+// Kept: like text_check's, but a crate for both would be longer than the four lines.
 fn read_file<'a>(
     rt: &(impl Files + Print),
     name: &[u8],

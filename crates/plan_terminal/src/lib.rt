@@ -48,6 +48,7 @@ fn judge_size(rack: &[u64], list: &[u8]) -> Result<(), Refusal>
 
 // Plans as `planner::plan` does, for up to 8 disks and 96 records. More of either is refused 17, behind 3 and before 7. A refusal changes none of the
 // lent tables.
+// Kept: the three tables as slices, since this signature is public.
 pub fn plan_terminal(
     rack: &[u64],
     list: &[u8],

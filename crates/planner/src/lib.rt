@@ -32,6 +32,7 @@ use refusal::Refusal;
 // Plans for a rack of disks, one number each, from the bytes of a demand list. A plan goes into the
 // lent tables: each disk's copies from its first place on, the number of copies of each disk, and
 // what is left. A refusal changes none of them.
+// Kept: the three tables as slices, since this signature and the next one are public.
 pub fn plan(
     rack: &[u64],
     list: &[u8],

@@ -7,7 +7,8 @@ ghost use Rattle.transfer_schedule.specs.Fits.{TransferFits, most_transfers};
 
 use crate::entry::{destination_of, source_of};
 
-// Counts the transfers of some entries in a table of zeros, which comes and goes by value.
+// Counts the transfers of some entries in a table of zeros.
+// Kept: the table comes and goes by value, which the scope asks to be used where it is in reach.
 pub(crate) fn count_transfers(table: [[u32; 9]; 9], entries: &[u64]) -> [[u32; 9]; 9]
     requires { (table ≡ count_table []) × Each TransferFits (map transfer_in entries.now)
         × (length entries.now ≤ most_transfers) }

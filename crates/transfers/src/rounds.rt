@@ -11,6 +11,7 @@ const ROW: usize = 256;
 // on are known to be.
 #[derive(Drop)]
 pub(crate) struct Rounds {
+    // Kept: rows one behind the other, since `BusyTable` and `FullTable` number the places so.
     busy: [u8; 2304],
     full: [u64; 9],
     placed: usize,
@@ -58,7 +59,7 @@ impl Rounds {
         ensures bounds { (1 ≤ result) × (result ≤ self.now.placed + 1) }
     {
         let from = self.full[source].max(self.full[destination]);
-        // Kept: `position` over two zipped rows proves, but needs four bounds of rows and a `match`.
+        // Kept: two zipped rows need four bounds and a `match`, and the round is counted all the same.
         for r in from as usize..self.placed {
             if both_free(
                 self.busy[source * ROW + r],

@@ -36,6 +36,7 @@ impl<'a> Sources<'a> {
         let old = self.old;
         let start = self.starts[(film % REMAINDERS) as usize] as usize;
         let behind = &old[start.min(old.len())..];
+        // Kept: with `find` and `map_or` the answer's goal stayed open.
         for key in behind {
             if key.film() == film {
                 return key.disk();
