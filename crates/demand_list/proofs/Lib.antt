@@ -1,3 +1,4 @@
 pub mod Judging
 pub mod Seen
 pub mod Checking
+pub mod Chunks

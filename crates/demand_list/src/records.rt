@@ -16,10 +16,9 @@ pub(crate) fn judge_records(list: &[u8]) -> Result<(), Refusal>
 {
     // Kept: a place for every number of 16 bits, since memory is fixed and films come in any order.
     let mut seen = [false; 65536];
-    // Kept: the definitions say that record i stands at place 8 i, and a refusal names i + 1.
-    for i in 0..list.len() / 8 {
-        let film = number32(list, 8 * i);
-        let demand = number32(list, 8 * i + 4);
+    for (i, record) in list.chunks_exact(8).enumerate() {
+        let film = number32(record, 0);
+        let demand = number32(record, 4);
         let position = i as u32 + 1;
         if !in_range(MOST_PLAN_FILM, film) {
             return Err(Refusal::FilmOutOfRange(position));
