@@ -1,5 +1,5 @@
 -- Record i as eight bytes: its numbers are those that the list has at place 8 i.
-use mathlib.Core.Path.{◌≡◌, refl, sym, ap, ◌∙◌, subst}
+use mathlib.Core.Path.{◌≡◌, sym, ap, ◌∙◌, subst}
 use mathlib.Core.Bool.{Bool}
 use mathlib.Core.List.{List, ◌++◌}
 use Prim.Native.Nat.{ℕ, ◌+◌, ◌*◌, ◌/◌, ◌-◌, ◌≤◌, ◌<◌}
@@ -47,10 +47,20 @@ module _ (list rest part after : List ℕ) (i size : ℕ) (left : rest ≡ drop 
       subst (λ (n : ℕ). Next list seen n part after) (sym e) (record {
         checked = checked;
         here = inside;
-        film = omega (arith, byte_at 0 (8 * i) (omega arith) (omega arith), byte_at 1 (8 * i + 1) (omega arith) (omega arith),
-            byte_at 2 (8 * i + 2) (omega arith) (omega arith), byte_at 3 (8 * i + 3) (omega arith) (omega arith));
-        demand = omega (arith, byte_at 4 (8 * i + 4) (omega arith) (omega arith), byte_at 5 (8 * i + 4 + 1) (omega arith) (omega arith),
-            byte_at 6 (8 * i + 4 + 2) (omega arith) (omega arith), byte_at 7 (8 * i + 4 + 3) (omega arith) (omega arith));
+        film = omega (
+          arith,
+          byte_at 0 (8 * i) (omega arith) (omega arith),
+          byte_at 1 (8 * i + 1) (omega arith) (omega arith),
+          byte_at 2 (8 * i + 2) (omega arith) (omega arith),
+          byte_at 3 (8 * i + 3) (omega arith) (omega arith),
+        );
+        demand = omega (
+          arith,
+          byte_at 4 (8 * i + 4) (omega arith) (omega arith),
+          byte_at 5 (8 * i + 4 + 1) (omega arith) (omega arith),
+          byte_at 6 (8 * i + 4 + 2) (omega arith) (omega arith),
+          byte_at 7 (8 * i + 4 + 3) (omega arith) (omega arith),
+        );
         left = left_after;
       })
 

@@ -47,19 +47,25 @@ pub loop-i-init : goal.loop-i-init
 loop-i-init c =
     let same = c.into_iter-i-iterator.ensures.into_iter_gives in
     let none = ap enumerate_count same ∙ c.enumerate-i-items.ensures.count in
-    let source = ap enumerate_source same ∙ c.enumerate-i-items.ensures.source in
-    (search rules, tt, checked_at _ _ _ 0 none (checked_none _ _ refl),
-    left_at _ _ _ 0 none (ap chunks_exact_rest source ∙ c.chunks_exact.ensures.rest),
-    ap chunks_exact_size source ∙ c.chunks_exact.ensures.size)
+    let source = ap enumerate_source same ∙ c.enumerate-i-items.ensures.source in (
+      search rules,
+      tt,
+      checked_at _ _ _ 0 none (checked_none _ _ refl),
+      left_at _ _ _ 0 none (ap chunks_exact_rest source ∙ c.chunks_exact.ensures.rest),
+      ap chunks_exact_size source ∙ c.chunks_exact.ensures.size,
+    )
 
 pub loop-i-preserved : goal.loop-i-preserved
 loop-i-preserved c =
     let inv = c.loop-i.invariant in
     let step = c.in-Some.ensures.steps in
     let next = next_record _ _ _ _ _ _ inv.3 inv.4 step.0.1.0 step.0.1.1 _ _ step.1 inv.2 in
-    let more = step.2 ∙ ap (λ (n : ℕ). n + 1) (sym step.1) in
-    (search rules, tt, checked_at _ _ _ _ more
-    (checked_more next.checked next.here (c.number32-film.ensures ∙ next.film) (c.number32-demand.ensures ∙ next.demand)
-    c.if-not-in_range.ensures c.if-film-gt-MOST_FILM.false c.if-demand-gt-MOST_DEMAND.false c.if-seen-place.false),
-    left_at _ _ _ _ more next.left,
-    step.0.0 ∙ inv.4)
+    let more = step.2 ∙ ap (λ (n : ℕ). n + 1) (sym step.1) in (
+      search rules,
+      tt,
+      checked_at _ _ _ _ more
+          (checked_more next.checked next.here (c.number32-film.ensures ∙ next.film) (c.number32-demand.ensures ∙ next.demand)
+          c.if-not-in_range.ensures c.if-film-gt-MOST_FILM.false c.if-demand-gt-MOST_DEMAND.false c.if-seen-place.false),
+      left_at _ _ _ _ more next.left,
+      step.0.0 ∙ inv.4,
+    )
