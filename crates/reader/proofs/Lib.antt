@@ -5,6 +5,7 @@ pub mod CopyEnds
 pub mod CopyLists
 pub mod StoredPairs
 pub mod Lines
+pub mod Racks
 pub mod PairLines
 pub mod DiskReading
 pub mod DiskTables
@@ -14,6 +15,7 @@ pub mod RackDisks
 pub mod DiskSteps
 pub mod Judgements
 pub mod PlanParts
+pub mod TailReading
 pub mod FirstLines
 pub mod PlanReading
 pub mod Promises

@@ -1,5 +1,5 @@
 -- Laws of pieces that are read one after the other.
-use mathlib.Core.Path.{◌≡◌, refl, sym, ◌∙◌}
+use mathlib.Core.Path.{◌≡◌, refl, sym, ap, ◌∙◌}
 use mathlib.Core.List.{List, [], ◌∷◌, ◌++◌}
 use Prim.Native.Nat.{ℕ}
 use Rattle.plan_text.specs.Parse.{Parse, parsed, unparsed, next, byte, literal}
@@ -16,6 +16,12 @@ pub next_same :
     {A B : Type 0} (p : Parse A) (f g : A → List ℕ → Parse B) → ((a : A) (t : List ℕ) → f a t ≡ g a t) → next p f ≡ next p g
 next_same (parsed a t) f g same = same a t
 next_same unparsed f g same = refl
+
+-- A piece, and what follows it.
+pub piece :
+    {A B C : Type 0} (q : Parse B) (p : Parse A) (f : A → List ℕ → Parse B) (k : B → List ℕ → Parse C)
+    → q ≡ next p f → next q k ≡ next p (λ a t. next (f a t) k)
+piece q p f k e = ap (λ (x : Parse _). next x k) e ∙ next_assoc p f k
 
 -- Bytes that are determined may be compared in two parts.
 pub literal_append :

@@ -30,6 +30,7 @@ pub(crate) fn class_of(byte: u8) -> Class
 }
 
 // Whether a byte is a digit.
+// Kept: not std's `is_ascii_digit`, since the one match of `class_of` serves both tests.
 #[inline]
 pub(crate) fn is_digit(byte: u8) -> bool
     ensures { result ≡ is_digit byte }

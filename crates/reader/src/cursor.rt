@@ -10,8 +10,8 @@ ghost use Rattle.reader.specs.Cursor.{parse_of};
 use crate::class::{is_digit, is_foreign};
 use std::marker::Model;
 
-// The bytes of a text that are not read yet.
-#[derive(Drop)]
+// The bytes of a text that are not read yet. A clone needs no memory, so `clone().ok()?` goes on.
+#[derive(Clone, Drop)]
 pub struct Cursor<'a> {
     rest: &'a [u8],
 }
@@ -39,13 +39,6 @@ impl<'a> Cursor<'a> {
         ensures { result ≡ text.now }
     {
         Cursor { rest: text }
-    }
-
-    // Another cursor at the same byte.
-    pub(crate) fn fork(&self) -> Cursor<'a>
-        ensures { result ≡ self.now }
-    {
-        Cursor { rest: self.rest }
     }
 
     // Whether all bytes are read.

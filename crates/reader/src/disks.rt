@@ -20,6 +20,7 @@ impl<'a> Cursor<'a> {
             copies.new counts.new result }
     {
         let mut served = 0u64;
+        // Kept: disks' places differ in number, so no `chunks_mut`; a rest to split is no plainer.
         let mut from = 0usize;
         for (i, disk) in rack.iter().enumerate() {
             let number = i as u32 + 1;

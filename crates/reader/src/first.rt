@@ -37,7 +37,7 @@ impl<'a> Cursor<'a> {
         requires { length rack.old ≡ most_disks }
         ensures { FirstRead self.old self.new rack.new result }
     {
-        let mut equal = self.fork();
+        let mut equal = self.clone().ok()?;
         let Some(said) = equal.rack_line() else {
             return self.mixed_line(rack);
         };

@@ -10,7 +10,7 @@ ghost use Rattle.reader.specs.Cursor.{parse_of, parse_by};
 ghost use Rattle.reader.specs.Line.{line_end, sizes, LineRead, DiskRead};
 
 use crate::cursor::Cursor;
-use crate::pairs::{Pair, StoredCopy};
+use crate::pairs::{MarkedCopy, Pair};
 use placement::{Rack, Slots, Streams, disk_slots, disk_streams};
 
 // How many pairs a line has, and what they sum to.
@@ -74,7 +74,7 @@ impl<'a> Cursor<'a> {
     {
         self.eat_all(b"(disk ")?;
         self.eat_number(u64::from(number))?;
-        let count = self.listed::<StoredCopy>(copies)?;
+        let count = self.listed::<MarkedCopy>(copies)?;
         let sum = well_formed::total(&copies[..count]);
         let slots = disk_slots(disk);
         let streams = disk_streams(disk);

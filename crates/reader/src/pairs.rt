@@ -1,7 +1,7 @@
 // The pairs or copies of a line.
 ghost use Rattle.std.specs.Prelude.{◌≡◌};
 ghost use Rattle.placement.specs.Items.{item};
-ghost use Rattle.plan_text.specs.Parse.{pair_start, parsed, next};
+ghost use Rattle.plan_text.specs.Parse.{pair_start};
 ghost use Rattle.plan_text.specs.Capped.{saturated};
 ghost use Rattle.reader.specs.Cursor.{parse_by};
 ghost use Rattle.reader.specs.Pairs.{halves_end, PairsRead};
@@ -41,9 +41,9 @@ impl Listed for Pair {
 }
 
 // A film and its viewers, where the film may be marked as held.
-pub struct StoredCopy;
+pub struct MarkedCopy;
 
-impl Listed for StoredCopy {
+impl Listed for MarkedCopy {
     ghost use Rattle.reader.specs.Pairs.{halves_read};
 
     ghost reads = { halves_read };
@@ -89,7 +89,7 @@ impl<'a> Cursor<'a> {
     pub(crate) fn listed<L: Listed>(&mut self, entries: &mut [u64]) -> Option<usize>
         ensures { PairsRead L.reads self.old self.new entries.old entries.new result }
     {
-        let mut here = self.fork();
+        let mut here = self.clone().ok()?;
         for (n, entry) in entries.iter_mut().enumerate() {
             if here.eat(b' ').is_none() {
                 here.eat(b')')?;

@@ -14,6 +14,7 @@ use refusal::Refusal;
 // Packed disks and tables with room for the largest plan.
 #[derive(Drop)]
 pub struct OwnPlan {
+    // Kept: no ArrayVec, since `read` answers how many disks in any case (`PlanRead::disks`).
     pub rack: [u64; 64],
     pub tables: PlanTables,
 }
