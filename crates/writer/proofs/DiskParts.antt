@@ -1,7 +1,7 @@
 -- The tables from a disk on: that disk's places, then the tables from the next disk on.
 use Rattle.std.proofs.Common.{◌≡◌, ℕ, zero, suc, ◌+◌, ◌-◌, ◌<◌, ◌≤◌, Bool, true, false, ◌&&◌, leb, List, [], ◌∷◌, ◌++◌, map, length, get_or, take, drop, sym, refl, ap, ◌∙◌, ap₂, add-one, arith, length-drop, drop_of_length-le, take_all, drop-drop, leb-true}
 use Rattle.placement.specs.Copies.{unmarked, layout_of, copy_of}
-use Rattle.placement.specs.Rack.{Disk, disk}
+use Rattle.placement.specs.Rack.{Disk}
 use Rattle.placement.specs.Tables.{tables, copies_in}
 use Rattle.placement.specs.Packed.{disk_in, disks_in}
 use Rattle.placement.specs.Held.{front, copies_from, marked_from}
@@ -104,14 +104,14 @@ module _ (rack : List ℕ) (d : ℕ) (more : d < length rack) (k : ℕ) (slots :
 
       -- So where the disk's own tests, of its places as they are lent, have an answer.
       pub formed_step :
-          (load : ℕ) → load ≡ (disk_in (get_or rack d 0)).load → (tested : Bool)
-          → tested ≡ disk_formed (disk k load) (get_or counts d 0) (take (length copies - first) (drop first copies))
+          (tested : Bool)
+          → tested ≡ disk_formed (disk_in (get_or rack d 0)) (get_or counts d 0) (take (length copies - first) (drop first copies))
           → disks_formed (drop d (disks_in rack)) (drop first copies) (drop d counts)
           ≡ (tested && disks_formed (drop (d + 1) (disks_in rack)) (drop (first + k) copies) (drop (d + 1) counts))
-      formed_step load loads tested e =
+      formed_step tested e =
           formed_next
           ∙ ap (λ (b : Bool). b && disks_formed (drop (d + 1) (disks_in rack)) (drop (first + k) copies) (drop (d + 1) counts))
-          (ap₂ (λ (x : Disk) (places : List ℕ). disk_formed x (get_or counts d 0) places) (sym (ap₂ disk slots loads)) (sym (part_from copies first))
+          (ap (λ (places : List ℕ). disk_formed (disk_in (get_or rack d 0)) (get_or counts d 0) places) (sym (part_from copies first))
           ∙ sym e)
 
       -- The copies from disk d on: its own, as they are lent, then those from the next disk on.

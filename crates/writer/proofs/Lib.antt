@@ -2,6 +2,7 @@ pub mod Rests
 pub mod Spaces
 pub mod Runs
 pub mod Calls
+pub mod Digits
 pub mod DiskParts
 pub mod Sums
 pub mod Refusals

@@ -22,7 +22,9 @@ use crate::stated::StatedPlan;
 use refusal::Refusal;
 pub use refusal_line::write_refusal;
 
-// Writes the text of the plan held to the lent space. Every refusal is judged, and the length known, before the first byte.
+// Writes the text of the plan held to the lent space. Every refusal is judged, and the length
+// known, before the first byte.
+// Kept: what may not change: `write` is public, with these slices; inside they are a `StatedPlan`.
 pub fn write(
     rack: &[u64],
     copies: &[u64],

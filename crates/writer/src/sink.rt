@@ -4,17 +4,11 @@ ghost use Rattle.plan_text.specs.Decimal.{decimal};
 ghost use Rattle.writer.specs.Space.{Put};
 
 // How many digits a number has.
+#[tactic(auto, using(crate::proofs::Digits::length_zero, crate::proofs::Digits::length_decimal))]
 fn digits(number: u64) -> usize
     ensures { result ≡ length (decimal number) }
 {
-    let mut count = 1usize;
-    let mut front = number;
-    // Kept: no range says how often a number can be divided.
-    while front >= 10 {
-        front /= 10;
-        count += 1;
-    }
-    count
+    number.checked_ilog10().map_or(1, |power| power as usize + 1)
 }
 
 // Stores one byte and answers the next place.

@@ -1,5 +1,5 @@
-// The whole text of a plan: the rack line, which for unequal disks names each, a line a disk, the left line and the served
-// line.
+// The whole text of a plan: the rack line, which for unequal disks names each, a line a disk, the
+// left line and the served line.
 ghost use Rattle.std.specs.Prelude.{◌≡◌, true, [], ◌∷◌};
 ghost use Rattle.plan_text.specs.Text.{lines, first_line, text_of};
 ghost use Rattle.plan_text.specs.WriteCall.{plan_of, well_formed_call};
@@ -8,7 +8,7 @@ ghost use Rattle.writer.specs.Space.{disk_lines};
 use crate::line::{put_disk, put_pairs, put_rack, put_served};
 use crate::sink::Sink;
 use crate::stated::StatedPlan;
-use placement::{all_slots, disk_slots, disk_streams};
+use placement::{Rack, all_slots, disk_slots, disk_streams};
 use well_formed::{all_equal, total};
 
 impl<'a> StatedPlan<'a> {
@@ -19,22 +19,23 @@ impl<'a> StatedPlan<'a> {
     {
         if all_equal(self.rack) {
             let disk = self.rack[0];
-            put_rack(
-                sink,
-                self.rack.len() as u32,
-                disk_slots(disk).0,
-                disk_streams(disk).0,
-            );
+            let equal = Rack {
+                disks: self.rack.len() as u32,
+                slots: disk_slots(disk),
+                streams: disk_streams(disk),
+            };
+            put_rack(sink, equal);
             return;
         }
         put_pairs(sink, b"(mixed", self.rack);
     }
 
-    // Puts the lines of all disks: the lines from one disk on give the whole.
+    // Puts the lines of all disks.
     fn put_disks<S: Sink>(&self, sink: &mut S)
         requires { well_formed_call self.now ≡ true }
         ensures { S.takes sink.old (disk_lines 1 (plan_of self.now).copies) sink.new }
     {
+        // Kept: no range gives `first`; a disk's places begin behind the slots of all before it.
         let mut first = 0;
         for (d, disk) in self.rack.iter().enumerate() {
             let end = first + self.counts[d] as usize;

@@ -1,5 +1,5 @@
 -- The disks from `d` on give the answer for all: each has its places and its count.
-use Rattle.std.proofs.Common.{length, sym, ap, ◌∙◌, arith, length-drop}
+use Rattle.std.proofs.Common.{length, sym, refl, ap, ◌∙◌, arith, length-drop}
 use Rattle.placement.proofs.Conjunctions.{first_fails, second_decides}
 use Rattle.writer.proofs.DiskParts.{part_from, stated_room, first_next, formed_step}
 use Rattle.writer.proofs.stated.StatedPlan.disks_formed.Goals as goal
@@ -29,7 +29,6 @@ disk_formed-requires c =
     omega (
       arith,
       room.places,
-      c.disk_slots-slots.ensures,
       ap length (part_from p.copies.now c.loop-d.first),
       length-drop c.loop-d.first p.copies.now,
     )
@@ -39,22 +38,22 @@ returns-then-not-disk_formed c =
     let p = c.self.inside in
     let room = stated_room p.rack.now p.copies.now p.counts.now p.left.now p.films c.self.invariant c.loop-d.d c.loop-d.first c.loop-d-test.true c.loop-d.invariant.0 in
     let step =
-    formed_step p.rack.now c.loop-d.d c.loop-d-test.true c.disk_slots-slots.result.0 c.disk_slots-slots.ensures p.copies.now p.counts.now
-    room.counted c.loop-d.first c.disk_streams-streams.result.0 c.disk_streams-streams.ensures c.disk_formed.result c.disk_formed.ensures in
+    formed_step p.rack.now c.loop-d.d c.loop-d-test.true _ refl p.copies.now p.counts.now room.counted c.loop-d.first
+    c.disk_formed.result c.disk_formed.ensures in
     rw (← c.self.view_is) (first_fails c.disk_formed.result _ c.if-not-disk_formed.true ∙ sym step ∙ sym c.loop-d.invariant.1)
 
 pub overflow_add-first : goal.overflow_add-first
 overflow_add-first c =
     let p = c.self.inside in
     let room = stated_room p.rack.now p.copies.now p.counts.now p.left.now p.films c.self.invariant c.loop-d.d c.loop-d.first c.loop-d-test.true c.loop-d.invariant.0 in
-    omega (arith, room.places, c.disk_slots-slots.ensures)
+    omega (arith, room.places, c.disk_slots.ensures)
 
 pub loop-d-preserved : goal.loop-d-preserved
 loop-d-preserved c =
     let p = c.self.inside in
     let room = stated_room p.rack.now p.copies.now p.counts.now p.left.now p.films c.self.invariant c.loop-d.d c.loop-d.first c.loop-d-test.true c.loop-d.invariant.0 in
     let step =
-    formed_step p.rack.now c.loop-d.d c.loop-d-test.true c.disk_slots-slots.result.0 c.disk_slots-slots.ensures p.copies.now p.counts.now
-    room.counted c.loop-d.first c.disk_streams-streams.result.0 c.disk_streams-streams.ensures c.disk_formed.result c.disk_formed.ensures in
-    let next = first_next p.rack.now c.loop-d.d c.loop-d-test.true c.disk_slots-slots.result.0 c.disk_slots-slots.ensures in
+    formed_step p.rack.now c.loop-d.d c.loop-d-test.true c.disk_slots.result.0 c.disk_slots.ensures p.copies.now p.counts.now
+    room.counted c.loop-d.first c.disk_formed.result c.disk_formed.ensures in
+    let next = first_next p.rack.now c.loop-d.d c.loop-d-test.true c.disk_slots.result.0 c.disk_slots.ensures in
     (omega (arith, c.loop-d.invariant.0, next), c.loop-d.invariant.1 ∙ step ∙ sym (second_decides c.disk_formed.result _ c.if-not-disk_formed.false))
