@@ -1,7 +1,7 @@
 -- The tables from a disk on: that disk's places, then the tables from the next disk on.
 use Rattle.std.proofs.Common.{◌≡◌, ℕ, zero, suc, ◌+◌, ◌-◌, ◌<◌, ◌≤◌, Bool, true, false, ◌&&◌, leb, List, [], ◌∷◌, ◌++◌, map, length, get_or, take, drop, sym, refl, ap, ◌∙◌, ap₂, add-one, arith, length-drop, drop_of_length-le, take_all, drop-drop, leb-true}
 use Rattle.placement.specs.Copies.{unmarked, layout_of, copy_of}
-use Rattle.placement.specs.Rack.{Disk}
+use Rattle.placement.specs.Rack.{Disk, all_slots}
 use Rattle.placement.specs.Tables.{tables, copies_in}
 use Rattle.placement.specs.Packed.{disk_in, disks_in}
 use Rattle.placement.specs.Held.{front, copies_from, marked_from}
@@ -92,28 +92,6 @@ module _ (rack : List ℕ) (d : ℕ) (more : d < length rack) (k : ℕ) (slots :
     count_within e = omega (arith, unused_within (disks_in rack) copies counts e d inside, slots_here)
 
     module _ (counted : d < length counts) (first : ℕ) where
-      -- The tests from disk d on, where its places are those from `first` on: its own, then those from the next disk on.
-      pub formed_next :
-          disks_formed (drop d (disks_in rack)) (drop first copies) (drop d counts)
-          ≡ (disk_formed (disk_in (get_or rack d 0)) (get_or counts d 0) (drop first copies)
-          && disks_formed (drop (d + 1) (disks_in rack)) (drop (first + k) copies) (drop (d + 1) counts))
-      formed_next =
-          rw add-one (formed_from (disks_in rack) (drop first copies) counts d inside counted
-          ∙ ap₂ (λ (x : Disk) (s : ℕ). disk_formed x (get_or counts d 0) (drop first copies) && disks_formed (drop (suc d) (disks_in rack)) (drop s (drop first copies)) (drop (suc d) counts)) (disk_packed rack d) slots_here
-          ∙ ap (λ (behind : List ℕ). disk_formed (disk_in (get_or rack d 0)) (get_or counts d 0) (drop first copies) && disks_formed (drop (suc d) (disks_in rack)) behind (drop (suc d) counts)) (drop-drop k first copies))
-
-      -- So where the disk's own tests, of its places as they are lent, have an answer.
-      pub formed_step :
-          (tested : Bool)
-          → tested ≡ disk_formed (disk_in (get_or rack d 0)) (get_or counts d 0) (take (length copies - first) (drop first copies))
-          → disks_formed (drop d (disks_in rack)) (drop first copies) (drop d counts)
-          ≡ (tested && disks_formed (drop (d + 1) (disks_in rack)) (drop (first + k) copies) (drop (d + 1) counts))
-      formed_step tested e =
-          formed_next
-          ∙ ap (λ (b : Bool). b && disks_formed (drop (d + 1) (disks_in rack)) (drop (first + k) copies) (drop (d + 1) counts))
-          (ap (λ (places : List ℕ). disk_formed (disk_in (get_or rack d 0)) (get_or counts d 0) places) (sym (part_from copies first))
-          ∙ sym e)
-
       -- The copies from disk d on: its own, as they are lent, then those from the next disk on.
       pub copies_next :
           marked_from (drop d (disks_in rack)) (drop first copies) (drop d counts)
@@ -155,3 +133,39 @@ pub stated_room :
     (rack copies counts left : List ℕ) (films : ℕ) → Stated (write_call (disks_in rack) (tables copies counts left) films)
     → (d first : ℕ) → d < length rack → first ≡ offset (disks_in rack) d → DiskRoom rack copies counts d first
 stated_room rack copies counts left films stated d first more e = disk_room rack copies counts (room_copies _ stated.room) d first more e
+
+-- Packed disks and counts that are left, with room from `first` on: the front ones, and those behind them.
+module _ {ra rb : List ℕ} {n count : ℕ} {ns counts : List ℕ} (copies : List ℕ) (first : ℕ) (disks : ra ≡ n ∷ ns) (tallies : rb ≡ count ∷ counts) where
+  -- The front disk's places are in the copy table.
+  pub rest_places : CopyRoom (disks_in ra) (drop first copies) rb → first ≤ length copies → first + (disk_in n).slots ≤ length copies
+  rest_places room few =
+      omega (arith, room.copy_places, length-drop first copies, ap (λ (xs : List ℕ). all_slots (disks_in xs)) disks)
+
+  -- Behind it there is room for the others.
+  pub rest_room :
+      CopyRoom (disks_in ra) (drop first copies) rb → first ≤ length copies
+      → CopyRoom (disks_in ns) (drop (first + (disk_in n).slots) copies) counts
+  rest_room room few = record {
+    copy_places =
+        omega (
+          arith,
+          room.copy_places,
+          length-drop first copies,
+          length-drop (first + (disk_in n).slots) copies,
+          ap (λ (xs : List ℕ). all_slots (disks_in xs)) disks,
+        );
+    count_places =
+        omega (arith, room.count_places, ap (λ (xs : List ℕ). length (disks_in xs)) disks, ap length tallies);
+  }
+
+  -- The tests of those that are left: the front disk's own, then those of the others.
+  pub rest_formed :
+      (tested : Bool) → tested ≡ disk_formed (disk_in n) count (take (length copies - first) (drop first copies))
+      → disks_formed (disks_in ra) (drop first copies) rb
+      ≡ (tested && disks_formed (disks_in ns) (drop (first + (disk_in n).slots) copies) counts)
+  rest_formed tested e =
+      ap₂ (λ (xs ys : List ℕ). disks_formed (disks_in xs) (drop first copies) ys) disks tallies
+      ∙ formed_from (disks_in (n ∷ ns)) (drop first copies) (count ∷ counts) zero (omega arith) (omega arith)
+      ∙ ap (λ (behind : List ℕ). disk_formed (disk_in n) count (drop first copies) && disks_formed (disks_in ns) behind counts) (drop-drop (disk_in n).slots first copies)
+      ∙ ap (λ (b : Bool). b && disks_formed (disks_in ns) (drop (first + (disk_in n).slots) copies) counts)
+      (ap (λ (places : List ℕ). disk_formed (disk_in n) count places) (sym (part_from copies first)) ∙ sym e)

@@ -31,14 +31,15 @@ fn disk_formed(disk: u64, count: u32, places: &[u64]) -> bool
 
 impl<'a> StatedPlan<'a> {
     // Whether every disk is formed.
+    #[tactic(auto, using(crate::proofs::Calls::room_copies))]
     fn disks_formed(&self) -> bool
         ensures { result
             ≡ disks_formed self.now.rack self.now.tables.copies self.now.tables.counts }
     {
         // Kept: no range gives `first`; a disk's places begin behind the slots of all before it.
         let mut first = 0;
-        for (d, disk) in self.rack.iter().enumerate() {
-            if !disk_formed(*disk, self.counts[d], &self.copies[first..]) {
+        for (disk, count) in self.rack.iter().zip(self.counts) {
+            if !disk_formed(*disk, *count, &self.copies[first..]) {
                 return false;
             }
             first += disk_slots(*disk).0 as usize;

@@ -2,7 +2,13 @@
 ghost use Rattle.std.specs.Prelude.{[], ◌∷◌, ◌++◌, map};
 ghost use Rattle.placement.specs.Tables.{item_in, copies_in};
 ghost use Rattle.plan_text.specs.Text.{
-    pairs_text, line_feed, lines, rack_line, disk_line, served_line};
+  pairs_text,
+  line_feed,
+  lines,
+  rack_line,
+  disk_line,
+  served_line,
+};
 
 use crate::entries::{MarkedCopy, Pair, put_entries};
 use crate::number::{put_two, put_word};

@@ -1,5 +1,4 @@
 // Words and decimal numbers, put one after the other.
-ghost use Rattle.plan_text.specs.Decimal.{decimal};
 ghost use Rattle.writer.specs.Space.{two_text};
 
 use crate::sink::Sink;

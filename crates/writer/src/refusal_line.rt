@@ -5,7 +5,8 @@ ghost use Rattle.writer.specs.RefusalPromise.{RefusalPromise};
 use crate::number::put_word;
 use crate::sink::{Count, Sink, Space};
 
-// Puts what follows a refusal's number: the second number where it is not 0, and the closing bracket.
+// Puts what follows a refusal's number: the second number where it is not 0, and the closing
+// bracket.
 fn put_end<S: Sink>(sink: &mut S, second: u32)
     ensures { S.takes sink.old (refusal_end second) sink.new }
 {
@@ -28,8 +29,8 @@ fn put_refusal<S: Sink>(sink: &mut S, number: u32, second: u32)
     sink.put_byte(b'\n');
 }
 
-// Writes the line of a refusal to the lent space and answers its length, or 0 where the space is too
-// short. A second number of 0 is not written.
+// Writes the line of a refusal to the lent space and answers its length, or 0 where the space is
+// too short. A second number of 0 is not written.
 // Kept: what may not change: `RefusalPromise` has the numbers, and 0 for a space that is too short.
 pub fn write_refusal(number: u32, second: u32, text: &mut [u8]) -> usize
     ensures { RefusalPromise number second text.old text.new result }

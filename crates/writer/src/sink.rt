@@ -8,7 +8,9 @@ ghost use Rattle.writer.specs.Space.{Put};
 fn digits(number: u64) -> usize
     ensures { result ≡ length (decimal number) }
 {
-    number.checked_ilog10().map_or(1, |power| power as usize + 1)
+    number
+        .checked_ilog10()
+        .map_or(1, |power| power as usize + 1)
 }
 
 // Stores one byte and answers the next place.
@@ -22,7 +24,7 @@ fn put_byte(out: &mut [u8], at: usize, byte: u8) -> usize
 }
 
 // Stores a number in decimal: the digits of its tenth, then its last digit.
-// Kept: the place travels by value, since writing through the generic sink took a fifth longer.
+// Kept: speed, with the old form's own as the bar (1.0): through the generic sink it took 1.2.
 fn put_digits(out: &mut [u8], at: usize, number: u64) -> usize
     ensures { Put at (decimal number) out.old out.new result }
 {

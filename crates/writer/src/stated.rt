@@ -1,7 +1,8 @@
 // A plan as the lent tables state it.
 use std::marker::Model;
 
-// The tables of a plan with the stated number of left films: the rack is accepted, and the tables have room for both.
+// The tables of a plan with the stated number of left films: the rack is accepted, and the tables
+// have room for both.
 #[derive(Drop)]
 pub(crate) struct StatedPlan<'a> {
     pub(crate) rack: &'a [u64],

@@ -37,6 +37,7 @@ impl<'a> StatedPlan<'a> {
     {
         // Kept: no range gives `first`; a disk's places begin behind the slots of all before it.
         let mut first = 0;
+        // Kept: no plainer: `zip` and `enumerate` give a pair in a pair for `self.counts[d]`.
         for (d, disk) in self.rack.iter().enumerate() {
             let end = first + self.counts[d] as usize;
             put_disk(sink, d as u64 + 1, &self.copies[first..end]);
