@@ -2,7 +2,7 @@
 #![tactic(auto)]
 
 ghost use Rattle.std.specs.Prelude.{◌≡◌, ◌++◌, min, length, take, drop};
-ghost use Rattle.placement.specs.Packed.{disk_in, disks_in};
+ghost use Rattle.placement.specs.Packed.{disk_in};
 ghost use Rattle.disk_entries.specs.Entries.{disk_of, disks_of_entries, held_disks};
 
 use placement::{Slots, Streams, disk_of, disk_slots, disk_streams};
@@ -27,19 +27,23 @@ pub struct PackedDisks {
 }
 
 // The entry's disk as one number.
-fn number_of(entry: DiskEntry) -> u64
-    ensures { disk_in result ≡ disk_of entry }
-{
-    disk_of(entry.slots, entry.streams)
+impl From<DiskEntry> for u64 {
+    ghost from_gives = { λ entry number. disk_in number ≡ disk_of entry };
+
+    fn from(entry: DiskEntry) -> u64 {
+        disk_of(entry.slots, entry.streams)
+    }
 }
 
 // The entry of a disk's number.
-fn entry_for(number: u64) -> DiskEntry
-    ensures { disk_of result ≡ disk_in number }
-{
-    DiskEntry {
-        slots: disk_slots(number),
-        streams: disk_streams(number),
+impl From<u64> for DiskEntry {
+    ghost from_gives = { λ number entry. disk_of entry ≡ disk_in number };
+
+    fn from(number: u64) -> DiskEntry {
+        DiskEntry {
+            slots: disk_slots(number),
+            streams: disk_streams(number),
+        }
     }
 }
 
@@ -64,7 +68,7 @@ pub fn pack(rack: &[DiskEntry]) -> PackedDisks
     let count = rack.len().min(MOST_PACKED);
     let mut disks = [0; 65];
     for (i, entry) in rack[..count].iter().enumerate() {
-        disks[i] = number_of(*entry);
+        disks[i] = u64::from(*entry);
     }
     PackedDisks { count, disks }
 }
@@ -77,6 +81,6 @@ pub fn unpack(packed: PackedDisks, rack: &mut [DiskEntry])
 {
     let count = fitting(packed, rack.len());
     for (i, number) in packed.disks[..count].iter().enumerate() {
-        rack[i] = entry_for(*number);
+        rack[i] = DiskEntry::from(*number);
     }
 }

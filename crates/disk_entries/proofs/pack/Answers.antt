@@ -13,9 +13,9 @@ loop-i-preserved c =
     let i = c.loop-i.i in
     let passed : i < c.min-count.result = omega (arith, length-take c.min-count.result rack, c.loop-i-test.true) in
     let within : i < length rack = omega arith in (
-      length-set c.loop-i.disks i c.number_of.result ∙ c.loop-i.invariant.0,
-      one_more rack i c.loop-i.disks c.number_of.result _ within (omega arith) c.loop-i.invariant.1
-          (c.number_of.ensures ∙ ap disk_of (get_or-take c.min-count.result rack i _ passed)),
+      length-set c.loop-i.disks i c.from.result ∙ c.loop-i.invariant.0,
+      one_more rack i c.loop-i.disks c.from.result _ within (omega arith) c.loop-i.invariant.1
+          (c.from.ensures ∙ ap disk_of (get_or-take c.min-count.result rack i _ passed)),
     )
 
 pub returns : goal.returns

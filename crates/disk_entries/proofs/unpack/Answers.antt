@@ -14,8 +14,8 @@ loop-i-preserved c =
     let i = c.loop-i.i in
     let passed : i < c.fitting-count.result = omega (arith, length-take c.fitting-count.result p.disks, c.loop-i-test.true) in
     let small : i < p.count = omega (arith, length-take p.count (disks_in p.disks)) in
-    one_entry_more (held_disks p) (disks_of_entries c.args.rack.now) c.loop-i.rack i c.entry_for.result (disk 0 0)
+    one_entry_more (held_disks p) (disks_of_entries c.args.rack.now) c.loop-i.rack i c.from.result (disk 0 0)
     (omega arith)
     (omega (arith, length-map c.args.rack.now disk_of))
     c.loop-i.invariant
-    (c.entry_for.ensures ∙ ap disk_in (get_or-take c.fitting-count.result p.disks i _ passed) ∙ sym (get_d_held p i small))
+    (c.from.ensures ∙ ap disk_in (get_or-take c.fitting-count.result p.disks i _ passed) ∙ sym (get_d_held p i small))
