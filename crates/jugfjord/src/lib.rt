@@ -2,6 +2,7 @@
 // exports each function to C.
 #![tactic(auto)]
 
+mod held;
 mod planning;
 mod reading;
 mod transferring;

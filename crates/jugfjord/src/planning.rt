@@ -9,11 +9,13 @@ ghost use Rattle.plan_terminal.specs.TerminalPromise.{TerminalPromise};
 ghost use Rattle.planner.specs.Answers.{plan_numbers};
 ghost use Rattle.jugfjord.specs.Numbers.{planned_fields};
 
-use disk_entries::{DiskEntry, held_count, pack};
+use crate::held::held;
+use disk_entries::{DiskEntry, pack};
 use planner::PlanSums;
 use refusal::Refusal;
 
 // `struct jugfjord_planned` of the header.
+// Kept: number and second, since C reads this struct of the header, which has them.
 #[repr(C)]
 #[derive(Clone, Copy, Debug, PartialEq, Eq, Default)]
 pub struct Planned {
@@ -36,6 +38,7 @@ impl From<Result<PlanSums, Refusal>> for Planned {
                 left: sums.left,
                 ..Planned::default()
             },
+            // Kept: alike in four impls, since C reads four structs with other fields.
             Err(refusal) => Planned {
                 number: refusal::number(refusal),
                 second: refusal::second(refusal),
@@ -45,8 +48,7 @@ impl From<Result<PlanSums, Refusal>> for Planned {
     }
 }
 
-// Kept: three functions, and the tables as slices: C calls each by its name and lends them so, and
-// each keeps a promise of its own.
+// Kept: three functions with the tables as slices, since C calls each by name and lends them so.
 
 // `planner::plan` with lent entries.
 pub fn jugfjord_plan(
@@ -63,7 +65,7 @@ pub fn jugfjord_plan(
         (planned_fields result) }
 {
     let packed = pack(rack);
-    let disks = &packed.disks[..held_count(packed)];
+    let disks = held(&packed);
     Planned::from(planner::plan(disks, list, copies, counts, left))
 }
 
@@ -82,7 +84,7 @@ pub fn jugfjord_plan_terminal(
         (planned_fields result) }
 {
     let packed = pack(rack);
-    let disks = &packed.disks[..held_count(packed)];
+    let disks = held(&packed);
     Planned::from(plan_terminal::plan_terminal(disks, list, copies, counts, left))
 }
 
@@ -102,6 +104,6 @@ pub fn jugfjord_plan_after(
         (planned_fields result) }
 {
     let packed = pack(rack);
-    let disks = &packed.disks[..held_count(packed)];
+    let disks = held(&packed);
     Planned::from(plan_after::plan_after(disks, list, earlier, copies, counts, left))
 }

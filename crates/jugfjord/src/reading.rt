@@ -11,6 +11,7 @@ use reader::PlanRead;
 use refusal::Refusal;
 
 // `struct jugfjord_read_plan` of the header.
+// Kept: number and second, since C reads this struct of the header, which has them.
 #[repr(C)]
 #[derive(Clone, Copy, Debug, PartialEq, Eq, Default)]
 pub struct ReadPlan {
@@ -35,6 +36,7 @@ impl From<Result<PlanRead, Refusal>> for ReadPlan {
                 unserved: plan.unserved,
                 ..ReadPlan::default()
             },
+            // Kept: alike in four impls, since C reads four structs with other fields.
             Err(refusal) => ReadPlan {
                 number: refusal::number(refusal),
                 second: refusal::second(refusal),
@@ -45,6 +47,7 @@ impl From<Result<PlanRead, Refusal>> for ReadPlan {
 }
 
 // `reader::read` with lent entries, its answer as plain numbers.
+// Kept: the tables as three slices, since C lends them so.
 pub fn jugfjord_read(
     text: &[u8],
     rack: &mut [DiskEntry],
@@ -60,6 +63,7 @@ pub fn jugfjord_read(
 {
     // 65 places are enough: no text has more disks than 64
     let places = rack.len().min(MOST_PACKED);
+    // Kept: an array and its count, since `reader::read` is lent a slice and tells how many.
     let mut disks = [0u64; 65];
     let plan = ReadPlan::from(reader::read(text, &mut disks[..places], copies, counts, left));
     let count = plan.disks as usize;

@@ -8,6 +8,7 @@ use refusal::Refusal;
 use transfers::InRounds;
 
 // `struct jugfjord_transferred` of the header.
+// Kept: number and second, since C reads this struct of the header, which has them.
 #[repr(C)]
 #[derive(Clone, Copy, Debug, PartialEq, Eq, Default)]
 pub struct Transferred {
@@ -28,6 +29,7 @@ impl From<Result<InRounds, Refusal>> for Transferred {
                 rounds: made.rounds,
                 ..Transferred::default()
             },
+            // Kept: alike in four impls, since C reads four structs with other fields.
             Err(refusal) => Transferred {
                 number: refusal::number(refusal),
                 second: refusal::second(refusal),

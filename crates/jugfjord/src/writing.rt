@@ -7,10 +7,12 @@ ghost use Rattle.writer.specs.Answers.{written_numbers};
 ghost use Rattle.writer.specs.WritePromise.{WritePromise};
 ghost use Rattle.jugfjord.specs.Numbers.{written_fields};
 
-use disk_entries::{DiskEntry, held_count, pack};
+use crate::held::held;
+use disk_entries::{DiskEntry, pack};
 use refusal::Refusal;
 
 // `struct jugfjord_written` of the header.
+// Kept: number and second, since C reads this struct of the header, which has them.
 #[repr(C)]
 #[derive(Clone, Copy, Debug, PartialEq, Eq, Default)]
 pub struct WrittenNumbers {
@@ -29,6 +31,7 @@ impl From<Result<u64, Refusal>> for WrittenNumbers {
                 length,
                 ..WrittenNumbers::default()
             },
+            // Kept: alike in four impls, since C reads four structs with other fields.
             Err(refusal) => WrittenNumbers {
                 number: refusal::number(refusal),
                 second: refusal::second(refusal),
@@ -39,6 +42,7 @@ impl From<Result<u64, Refusal>> for WrittenNumbers {
 }
 
 // `writer::write` with lent entries.
+// Kept: the tables as three slices, since C lends them so.
 pub fn jugfjord_write(
     rack: &[DiskEntry],
     copies: &[u64],
@@ -52,6 +56,6 @@ pub fn jugfjord_write(
         text.old text.new (written_fields result) }
 {
     let packed = pack(rack);
-    let disks = &packed.disks[..held_count(packed)];
+    let disks = held(&packed);
     WrittenNumbers::from(writer::write(disks, copies, counts, left, left_films, text))
 }

@@ -1,4 +1,5 @@
 // The C library: each function of the header exports that of `jugfjord`, with the same clauses. A slice is a pointer and then a count.
+// Kept: each function calls its like in `jugfjord`, since C calls each export by its name.
 #![tactic(auto)]
 
 ghost use Rattle.placement.specs.Tables.{tables};

@@ -6,8 +6,8 @@ mod failure;
 mod reading;
 mod writing;
 
-ghost use Rattle.std.specs.Prelude.{◌≡◌, true, false, ◌≤◌, ◌<◌, length, take, OnOk, OnErr, IfErr};
-ghost use Rattle.std.specs.Io.KnownBytes.{Appends, Keeps};
+ghost use Rattle.std.specs.Prelude.{◌≡◌, true, ◌≤◌, ◌<◌, length, take, OnOk, OnErr, IfErr};
+ghost use Rattle.std.specs.Io.KnownBytes.{Appends};
 ghost use Rattle.plan_output.specs.Input.{most_kept};
 ghost use Rattle.plan_output.specs.Output.{output_of};
 ghost use Rattle.plan_output.specs.OutputPromise.{most_output};
@@ -55,6 +55,7 @@ fn print<W: Write>(
 }
 
 // Reads the input and, where its end was seen, prints the output for it.
+// Kept: three facts that `new` gives and `run` asks: a name for them would stand in these two alone.
 #[tactic(auto, using(crate::proofs::RunPromises::run_unseen, crate::proofs::RunPromises::run_seen, crate::proofs::OneReads::failed_unseen, crate::proofs::Writes::keeps_same))]
 fn run<R: Read, W: Write>(
     reader: &mut R,

@@ -31,6 +31,7 @@ impl Reading {
         ensures all_turns { result.turns ≡ 18446744073709551615 }
     {
         Reading {
+            // Kept: a count that no input has says none, since `RunPromise` takes a number for kept.
             kept: usize::MAX,
             last: Ok(1),
             turns: u64::MAX,
@@ -53,8 +54,8 @@ impl Reading {
 
     // Reads once, counts what came and notes the answer. More may come, and the space has room for
     // what is kept of it.
-    // Kept: `more` stands at each method that reads, since a read may end it: a type that said it
-    // would be another after each read.
+    // Kept: `more` at each method that reads: a type that said it would be another after each read.
+    // Kept: `failed` and `turns` at each method: each is one line, and so would its name be.
     fn read_next<R: Read>(&mut self, reader: &mut R, space: &mut [u8]) -> io::Result<()>
         requires more { goes_on (answer_number self.old.last) ≡ true }
         requires space_not_empty { 1 ≤ length space.old }

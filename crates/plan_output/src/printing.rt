@@ -56,6 +56,7 @@ fn print_plan(rack: Rack, list: &[u8], text: &mut [u8]) -> usize
 }
 
 // Writes what `plan` prints for this input, and answers how many bytes that is, or 0 where the space is too short.
+// Kept: 0 and no Option for a space that is too short, since `OutputPromise` names that answer.
 pub fn output(input: &[u8], text: &mut [u8]) -> usize
     ensures { OutputPromise input.now text.old text.new result }
 {

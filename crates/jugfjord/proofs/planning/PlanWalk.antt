@@ -3,7 +3,7 @@
 use mathlib.Core.Path.{◌≡◌, subst}
 use mathlib.Core.List.{List}
 use Prim.Native.Nat.{ℕ}
-use lib.ListN.{length, take}
+use lib.ListN.{take}
 use Rattle.refusal.specs.Verdict.{Numbers}
 use Rattle.placement.specs.Rack.{Disk}
 use Rattle.placement.specs.Packed.{disks_in}
@@ -32,7 +32,7 @@ module _ (Promise : Call → Tables → Tables → Numbers PlanSums → Type 0) 
   -- The same of the numbers that are lent on, those of the disks held, and with the numbers of the answer that is given.
   pub packed_meets :
       Cut → (entries : List DiskEntry) (packed : PackedDisks) → held_disks packed ≡ take 65 (disks_of_entries entries)
-      → (n : ℕ) → n ≡ length (held_disks packed) → {list : List ℕ} {entry exit : Tables} {told answer : Numbers PlanSums} → answer ≡ told
-      → Promise (call (disks_in (take n packed.disks)) list) entry exit told → Promise (call (disks_of_entries entries) list) entry exit answer
-  packed_meets cut entries packed all n held same promise =
-      plan_meets cut entries packed all (held_promise packed n held Promise same promise)
+      → (numbers : List ℕ) → disks_in numbers ≡ held_disks packed → {list : List ℕ} {entry exit : Tables} {told answer : Numbers PlanSums} → answer ≡ told
+      → Promise (call (disks_in numbers) list) entry exit told → Promise (call (disks_of_entries entries) list) entry exit answer
+  packed_meets cut entries packed all numbers held same promise =
+      plan_meets cut entries packed all (held_promise packed numbers held Promise same promise)

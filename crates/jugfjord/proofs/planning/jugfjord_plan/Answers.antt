@@ -7,4 +7,4 @@ use Rattle.jugfjord.proofs.planning.jugfjord_plan.Goals as goal
 pub returns : goal.returns
 returns c =
     packed_meets PlanPromise (λ rack list entry exit answer. cut_promise rack list entry) c.args.rack.now _ c.pack-packed.ensures
-    _ c.held_count.ensures c.from.ensures c.plan.ensures.promise
+    _ c.held-disks.ensures c.from.ensures c.plan.ensures.promise

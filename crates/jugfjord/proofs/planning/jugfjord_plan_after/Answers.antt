@@ -11,4 +11,4 @@ pub returns : goal.returns
 returns c =
     packed_meets (λ (asked : Call) (entry exit : Tables) (answer : Numbers PlanSums). PlanAfterPromise asked c.args.earlier.now entry exit answer)
     (λ rack list entry exit answer. cut_after rack list c.args.earlier.now entry) c.args.rack.now _ c.pack-packed.ensures
-    _ c.held_count.ensures c.from.ensures c.plan_after.ensures.promise
+    _ c.held-disks.ensures c.from.ensures c.plan_after.ensures.promise

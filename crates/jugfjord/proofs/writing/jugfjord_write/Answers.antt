@@ -5,7 +5,6 @@ use Rattle.placement.specs.Rack.{Disk}
 use Rattle.placement.specs.Tables.{Tables, tables}
 use Rattle.plan_text.specs.WriteCall.{write_call}
 use Rattle.disk_entries.specs.Entries.{disks_of_entries}
-use Rattle.disk_entries.proofs.Held.{held_same}
 use Rattle.writer.specs.WritePromise.{WritePromise}
 use Rattle.jugfjord.specs.Numbers.{written_fields}
 use Rattle.jugfjord.proofs.LongRacks.{cut_written}
@@ -18,5 +17,5 @@ returns c =
     let exit = c.write.new.text in
     cut_written (disks_of_entries a.rack.now) entry a.left_films a.text.now
     (subst (λ (rack : List Disk). WritePromise (write_call rack entry a.left_films) a.text.now exit (written_fields c.from.result))
-    (held_same c.pack-packed.result _ c.held_count.ensures ∙ c.pack-packed.ensures)
+    (c.held-disks.ensures ∙ c.pack-packed.ensures)
     (subst (WritePromise _ a.text.now exit) (sym c.from.ensures) c.write.ensures.promise))
