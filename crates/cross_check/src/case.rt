@@ -54,7 +54,7 @@ fn family(number: u64) -> u64 {
 
 // A case of equal disks as the table of families has it.
 fn base_case(number: u64) -> Case {
-    let [disks, slots, load, records, low, high] = FAMILIES[family(number) as usize];
+    let [disks, slots, load, records, low, high] = FAMILIES[(number % 10) as usize];
     Case {
         number,
         disks: from_to(number, 0, 1, disks),

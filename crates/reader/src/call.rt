@@ -9,7 +9,7 @@ ghost use Rattle.reader.specs.Pass.{Judged, holds, disks_read};
 
 use crate::answer::PlanRead;
 use crate::plan::OwnPlan;
-use placement::{LentTables, room};
+use placement::LentTables;
 use refusal::Refusal;
 
 // Document 01's most bytes of a text.
@@ -29,20 +29,13 @@ impl OwnPlan {
     }
 
     // Whether a lent list of packed disks and lent tables have room for the plan that was read.
-    pub(crate) fn has_room(&self, read: PlanRead, rack: &[u64], lent: &LentTables) -> bool
+    pub(crate) fn fits(&self, read: PlanRead, rack: &[u64], lent: &LentTables) -> bool
         requires { read.disks ≤ most_disks }
         ensures { result ≡ (leb read.disks (length rack.now)
             && room_for (disks_read read self.now) read.left (held lent.now)) }
     {
         let disks = &self.rack[..read.disks as usize];
         let films = read.left as usize;
-        disks.len() <= rack.len()
-            && room(
-                disks,
-                films,
-                lent.copies.len(),
-                lent.counts.len(),
-                lent.left.len(),
-            )
+        disks.len() <= rack.len() && lent.has_room(disks, films)
     }
 }

@@ -51,7 +51,7 @@ pub fn read(
         counts,
         left,
     };
-    if !plan.has_room(read, rack, &lent) {
+    if !plan.fits(read, rack, &lent) {
         return Err(Refusal::TablesTooShort);
     }
     plan.store(read, rack, &mut lent);

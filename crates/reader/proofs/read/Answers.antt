@@ -13,14 +13,14 @@ returns-in_err-read-clause-promise c =
     let p = err_from_is_err_and c.from_residual.result c.from_residual.ensures.1 in
     rw (p.1, p.2) (call_refused a.text.now (disks_in a.rack.now) entry _ _ _ _ c.in_err-read.ensures)
 
-pub has_room-requires : goal.has_room-requires
-has_room-requires c = work_few c.args.text.now c.judge.new.self.rack c.in_ok-read.ensures
+pub fits-requires : goal.fits-requires
+fits-requires c = work_few c.args.text.now c.judge.new.self.rack c.in_ok-read.ensures
 
-pub returns-then-not-has_room-clause-promise : goal.returns-then-not-has_room-clause-promise
-returns-then-not-has_room-clause-promise c =
+pub returns-then-not-fits-clause-promise : goal.returns-then-not-fits-clause-promise
+returns-then-not-fits-clause-promise c =
     let a = c.args in
     let entry = tables a.copies.now a.counts.now a.left.now in
-    call_short a.text.now c.judge.new.self.rack c.in_ok-read.ensures a.rack.now entry (sym c.has_room.ensures ∙ c.if-not-has_room.true)
+    call_short a.text.now c.judge.new.self.rack c.in_ok-read.ensures a.rack.now entry (sym c.fits.ensures ∙ c.if-not-fits.true)
 
 pub store-requires-clause-disks : goal.store-requires-clause-disks
 store-requires-clause-disks c = work_few c.args.text.now c.judge.new.self.rack c.in_ok-read.ensures
@@ -36,4 +36,4 @@ returns-clause-promise c =
     let a = c.args in
     let entry = tables a.copies.now a.counts.now a.left.now in
     call_stored a.text.now c.judge.new.self.rack c.in_ok-read.ensures a.rack.now entry c.store.new.rack _
-    (sym c.has_room.ensures ∙ c.if-not-has_room.false) c.store.ensures.rack (search rules)
+    (sym c.fits.ensures ∙ c.if-not-fits.false) c.store.ensures.rack (search rules)
