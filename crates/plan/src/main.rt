@@ -55,7 +55,7 @@ fn print<W: Write>(
 }
 
 // Reads the input and, where its end was seen, prints the output for it.
-// Kept: three facts that `new` gives and `run` asks: a name for them would stand in these two alone.
+// Kept: `new` gives three facts, `run` asks them and `read_input` two: a name would hide which.
 #[tactic(auto, using(crate::proofs::RunPromises::run_unseen, crate::proofs::RunPromises::run_seen, crate::proofs::OneReads::failed_unseen, crate::proofs::Writes::keeps_same))]
 fn run<R: Read, W: Write>(
     reader: &mut R,

@@ -38,6 +38,7 @@ pub(crate) struct Plan {
 }
 
 // An entry with another number in its lower half: a film, or the slots of a disk.
+// Kept: by bits, apart from the library, whose entries are what is tried.
 fn with_low(entry: u64, n: u32) -> u64 {
     (entry >> 32 << 32) | u64::from(n)
 }

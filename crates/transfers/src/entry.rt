@@ -6,6 +6,7 @@ ghost use Rattle.transfer_schedule.specs.Fits.{TransferFits};
 ghost use Rattle.transfer_schedule.specs.Transfers.{transfer_entry, transfer_in};
 
 // The entry of a transfer.
+// Kept: a number and no struct, since C reads an entry so; the definitions divide by the same numbers.
 pub(crate) fn entry_of(source: u64, destination: u64, film: u64, round: u64) -> u64
     requires { TransferFits (transfer source destination film round) }
     ensures { result ≡ transfer_entry (transfer source destination film round) }

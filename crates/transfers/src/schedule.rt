@@ -60,7 +60,7 @@ fn place_all(
 // The transfers from some copies to others, whose entries are put into an empty list, with their
 // number and that of their rounds. No copy is noted among the starts of searches at first, since
 // 256 is behind all of them.
-// Kept: the order of the keys is asked here and in `lacking`, since a list of keys is a plain one.
+// Kept: order and number of keys, and the empty list, are asked for: plain slices and lists say none.
 pub(crate) fn transfers_between(
     old: &[CopyKey],
     new: &[CopyKey],
