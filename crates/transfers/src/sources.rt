@@ -34,7 +34,7 @@ impl<'a> Sources<'a> {
         ensures { result ≡ source_of (map stored_in self.now.old.now) «film» }
     {
         let old = self.old;
-        let start = self.starts[(film % REMAINDERS) as usize] as usize;
+        let start = usize::from(self.starts[(film % REMAINDERS) as usize]);
         let behind = &old[start.min(old.len())..];
         // Kept: with `find` and `map_or` the answer's goal stayed open.
         for key in behind {

@@ -10,7 +10,8 @@ abbrev film_of : ℕ → ℕ
 film_of key = (stored_in key).film
 
 pub loop-key-init : goal.loop-key-init
-loop-key-init c = source_left c.args.self.now.old.now c.args.film _ _ c.min.ensures (c.args.self.now.none_before c.args.film)
+loop-key-init c = source_left c.args.self.now.old.now c.args.film _ _ c.min.ensures
+    (rw c.from-start.ensures (c.args.self.now.none_before c.args.film))
 
 pub returns-then-film : goal.returns-then-film
 returns-then-film c =
