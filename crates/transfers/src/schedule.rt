@@ -61,6 +61,8 @@ fn place_all(
 // number and that of their rounds. No copy is noted among the starts of searches at first, since
 // 256 is behind all of them.
 // Kept: order and number of keys, and the empty list, are asked for: plain slices and lists say none.
+// Not inlined, so that its tables and those of reading are not on the stack at the same time.
+#[inline(never)]
 pub(crate) fn transfers_between(
     old: &[CopyKey],
     new: &[CopyKey],
