@@ -47,7 +47,7 @@ pub(crate) struct Call<'a> {
 }
 
 // A refusal's number and second number, as the documents have them.
-// Kept: numbers on purpose, since that the library's refusals have these is what is compared.
+// Kept: what may not change: the documents' numbers are compared with those of `refusal::number`.
 #[derive(Clone, Copy, Debug, PartialEq, Eq)]
 pub(crate) struct Refused(pub(crate) u32, pub(crate) u64);
 

@@ -23,6 +23,7 @@ pub(crate) struct Tables {
 }
 
 // An entry as one number: the film, and from bit 32 on its viewers.
+// Kept: by bits, apart from the library, whose entries are what is compared.
 impl From<Entry> for u64 {
     fn from(entry: Entry) -> u64 {
         u64::from(entry.film) | (u64::from(entry.viewers) << 32)

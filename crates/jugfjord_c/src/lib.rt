@@ -1,5 +1,5 @@
 // The C library: each function of the header exports that of `jugfjord`, with the same clauses. A slice is a pointer and then a count.
-// Kept: each function calls its like in `jugfjord`, since C calls each export by its name.
+// Kept: each calls its like in `jugfjord`: C calls each by its name and lends it the tables as slices.
 #![tactic(auto)]
 
 ghost use Rattle.placement.specs.Tables.{tables};

@@ -46,7 +46,7 @@ pub(crate) fn mark_disks(rack: &[u64], copies: &mut [u64], held: &HeldPlan)
         ≡ written (marked_places (disks_in rack.now) copies.old
         (layout_of (marked_from (disks_in held.now.rack.now) held.now.copies.now held.now.counts.now))) copies.old }
 {
-    // Kept: the places of a disk begin behind the slots of all before it, in both plans.
+    // Kept: disks' places differ in number, so no `chunks`; a rest to split is no plainer.
     let mut first = 0usize;
     let mut held_first = 0usize;
     for ((disk, held_disk), count) in rack.iter().zip(held.rack).zip(held.counts) {

@@ -30,7 +30,7 @@ pub(crate) struct Found {
 }
 
 // The first opening films that reach the load, or the most that a disk takes.
-// Kept: the load's range stands in three contracts, since `Streams` is public and takes any number.
+// Kept: what may not change: opening_load_of_32_bits and sliding_load_of_32_bits turn these facts.
 fn opening(keys: &[Key], slots: usize, load: u32) -> Prefix
     requires { (1 ≤ load) × (load ≤ 65535) × Each (Entry most_demand) (map item_of keys.now) }
     ensures { Opened slots load (map item_of keys.now) result.count result.sum }

@@ -14,7 +14,7 @@ use refusal::Refusal;
 // Packed disks and tables with room for the largest plan.
 #[derive(Drop)]
 pub struct OwnPlan {
-    // Kept: no ArrayVec, since `read` answers how many disks in any case (`PlanRead::disks`).
+    // Kept: no plainer: `PlanRead::disks` has the number, which an ArrayVec would say again.
     pub rack: [u64; 64],
     pub tables: PlanTables,
 }

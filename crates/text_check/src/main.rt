@@ -21,6 +21,7 @@ use std::{fs, io, iter};
 const FILE: usize = 131_072;
 
 // Reads as much of a file of cases as the space holds: no bytes of a missing one.
+// Kept: like plan_cases', but a crate for both would be longer than the four lines.
 fn read_file<'a>(rt: &impl Files, name: &str, space: &'a mut [u8]) -> io::Result<&'a [u8]> {
     let Ok(file) = fs::open(rt, name) else {
         return Ok(&[]);

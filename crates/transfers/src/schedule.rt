@@ -60,7 +60,7 @@ fn place_all(
 // The transfers from some copies to others, whose entries are put into an empty list, with their
 // number and that of their rounds. No copy is noted among the starts of searches at first, since
 // 256 is behind all of them.
-// Kept: order and number of keys, and the empty list, are asked for: plain slices and lists say none.
+// Kept: no plainer: a list with its order would be made at one place and asked at two.
 // Not inlined, so that its tables and those of reading are not on the stack at the same time.
 #[inline(never)]
 pub(crate) fn transfers_between(
@@ -75,6 +75,7 @@ pub(crate) fn transfers_between(
     requires empty { entries.old.items ≡ [] }
     ensures { TransfersMade (schedule_of (map stored_in old.now) (map stored_in new.now)) entries.new.items (transfer_numbers (Ok result)) }
 {
+    // Kept: 256 for none and no Option, which takes twice the room (fixed memory).
     let mut starts = [256u16; 4096];
     note_starts(old, &mut starts);
     let keys = lacking(old, new);

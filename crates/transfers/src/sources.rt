@@ -30,6 +30,7 @@ pub(crate) struct Sources<'a> {
 
 impl<'a> Sources<'a> {
     // The first disk of the old plan that holds a film, or 0, the loader.
+    // Kept: 0, as the definition `source_of` and C's entries number the loader.
     pub(crate) fn source_of(&self, film: u64) -> u64
         ensures { result ≡ source_of (map stored_in self.now.old.now) «film» }
     {

@@ -81,6 +81,7 @@ pub(crate) fn read_texts(
 >
     ensures { StoredTexts (texts_verdict old.now new.now) (verdict_of result) }
 {
+    // Kept: `reader::read` takes a lent slice, and answers how many disks are in it.
     let mut old_rack = [0u64; 64];
     let mut new_rack = [0u64; 64];
     let (old_disks, old_keys) = read_stored(old, &mut old_rack)?;

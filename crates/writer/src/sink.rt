@@ -24,7 +24,7 @@ fn put_byte(out: &mut [u8], at: usize, byte: u8) -> usize
 }
 
 // Stores a number in decimal: the digits of its tenth, then its last digit.
-// Kept: speed, with the old form's own as the bar (1.0): through the generic sink it took 1.2.
+// Kept: as a method over the sink it has the same lines, no plainer, and took 1.2 times as long.
 fn put_digits(out: &mut [u8], at: usize, number: u64) -> usize
     ensures { Put at (decimal number) out.old out.new result }
 {
