@@ -1,5 +1,5 @@
 -- The answer of planning and the verdict on the call: a refusal and a plan keep planning's promise.
-use mathlib.Core.Path.{◌≡◌, refl, ap, subst, ◌∙◌}
+use mathlib.Core.Path.{◌≡◌, refl, sym, ap, subst, ◌∙◌}
 use Rattle.std.specs.Prelude.{Result, Ok, Err}
 use Rattle.std.specs.Result.{result_and}
 use Rattle.refusal.specs.Verdict.{Verdict, given, refused, followed_by, Numbers, answered}
@@ -14,9 +14,32 @@ use Rattle.planner.specs.Answers.{sums_of, plan_numbers}
 use Rattle.planner.specs.Behind.{BehindPromise}
 
 module _ (c : Call) (t : Tables) where
+  -- What the verdict gives is what planning answers and leaves.
+  numbers_by : (v : Verdict (Unit {0})) (numbers : Numbers Sums) → v ≡ verdict c t → numbers ≡ answer_for c v → numbers ≡ planning c t
+  unfolding planning
+  numbers_by v numbers e answer = answer ∙ ap (λ (w : Verdict (Unit {0})). answer_for c w) e
+
+  tables_by : (v : Verdict (Unit {0})) (exit : Tables) → v ≡ verdict c t → exit ≡ tables_for c t v → exit ≡ tables_after c t
+  unfolding tables_after
+  tables_by v exit e tables = tables ∙ ap (λ (w : Verdict (Unit {0})). tables_for c t w) e
+
+  -- A refusal that leaves the tables as they were keeps the promise.
+  pub refused_promise : (r : Refusal) → refusal_of r ≡ verdict c t → PlanPromise c t t (plan_numbers (Err r))
+  refused_promise r refuses =
+      plan_promise c t t (plan_numbers (Err r)) (numbers_by (refusal_of r) (plan_numbers (Err r)) refuses refl)
+      (tables_by (refusal_of r) t refuses refl)
+
   -- The numbers of a plan are the answer for a call that is not refused.
   pub planned_numbers : (a : PlanSums) → sums_of a ≡ sums_in c → plan_numbers (Ok a) ≡ answer_for c (given tt)
   planned_numbers a e = ap (λ (v : Sums). answered (sums 0 0 0) (λ (w : Sums). w) (given v)) e
+
+  -- A plan keeps the promise.
+  pub planned_promise :
+      (a : PlanSums) (exit : Tables) → verdict c t ≡ given tt → sums_of a ≡ sums_in c → exit ≡ holding_call c t
+      → PlanPromise c t exit (plan_numbers (Ok a))
+  planned_promise a exit e numbers tables =
+      plan_promise c t exit (plan_numbers (Ok a)) (numbers_by (given tt) (plan_numbers (Ok a)) (sym e) (planned_numbers a numbers))
+      (tables_by (given tt) exit (sym e) tables)
 
   -- What is refused behind planning's judgement, or planned, keeps the promise of planning behind it.
   module _ (other : Verdict (Unit {0})) where
@@ -41,22 +64,6 @@ module _ (c : Call) (t : Tables) where
         {exit : Tables} {answer : Numbers Sums} → given tt ≡ last (verdict c t) → answer ≡ answer_for c (given tt) → exit ≡ holding_call c t
         → BehindPromise c other t exit answer
     behind_planned e numbers tables = record { numbers = numbers ∙ ap (answer_for c) e; tables = tables ∙ ap (tables_for c t) e }
-
-  -- Where the other judgement is no refusal, it is the promise of planning.
-  none_behind : (v : Verdict (Unit {0})) → followed_by v (given tt) ≡ v
-  none_behind (given u) = refl
-  none_behind (refused number second) = refl
-
-  numbers_by : (numbers : Numbers Sums) → numbers ≡ answer_for c (followed_by (verdict c t) (given tt)) → numbers ≡ planning c t
-  unfolding planning
-  numbers_by numbers answer = answer ∙ ap (answer_for c) (none_behind (verdict c t))
-
-  tables_by : (exit : Tables) → exit ≡ tables_for c t (followed_by (verdict c t) (given tt)) → exit ≡ tables_after c t
-  unfolding tables_after
-  tables_by exit tables = tables ∙ ap (tables_for c t) (none_behind (verdict c t))
-
-  pub behind_none : (exit : Tables) (answer : Numbers Sums) → BehindPromise c (given tt) t exit answer → PlanPromise c t exit answer
-  behind_none exit answer p = plan_promise c t exit answer (numbers_by answer p.numbers) (tables_by exit p.tables)
 
 -- One judgement and another behind it, as verdicts.
 pub joined : (j b : Result (Unit {0}) Refusal) → verdict_of (result_and j b) ≡ followed_by (verdict_of j) (verdict_of b)

@@ -7,7 +7,7 @@ use native.Mathlib.Omega.{arith}
 use borrow.Author.Tests.{leb-true}
 use lib.Dec.{leb}
 use lib.ListN.{length}
-use Rattle.refusal.specs.Verdict.{given}
+use Rattle.refusal.specs.Verdict.{given, answered}
 use Rattle.placement.specs.Items.{Item, total, amount_of, list_of, by_film}
 use Rattle.placement.specs.Rack.{all_slots}
 use Rattle.placement.specs.Records.{record_count}
@@ -19,10 +19,12 @@ use Rattle.placement.specs.Planning.{Call, sums, sums_in, records_in, placed_in,
 use Rattle.placement.specs.Promise.{Distinct}
 use Rattle.placement.specs.WellFormed.{CallWellFormed}
 use Rattle.placement.proofs.Conjunctions.{both_true}
+use Rattle.placement.proofs.Sums.{length_sum, one}
 use Rattle.placement.proofs.Films.{Usable}
+use Rattle.placement.proofs.Records.{records_length}
 use Rattle.placement.proofs.ByFilm.{sum_by_by_film, by_film_length}
 use Rattle.placement.proofs.WellFormed.{accepted_usable}
-use Rattle.placement.proofs.ShelfFilms.{shelf_unwanted}
+use Rattle.placement.proofs.ShelfFilms.{shelf_sum, shelf_unwanted}
 use Rattle.placement.proofs.ShelfSharing.{shelved_served}
 use Rattle.placement.proofs.ShelfPlan.{left_distinct, left_total}
 use Rattle.placement.proofs.MarkedCopies.{marked_none}
@@ -53,6 +55,17 @@ tables_same {c} {c'} {n} {n'} {l} {l'} p q r =
 module _ (c : Call) (formed : CallWellFormed c) where
   usable : Usable (filling c.rack)
   usable = accepted_usable c.rack formed.rack
+
+  -- There are no more films of demand 0 than records.
+  pub films_few : length (shelf_films (records_in c)) ≤ record_count c.list
+  films_few =
+      omega (
+        arith,
+        length_sum (shelf_films (records_in c)),
+        shelf_sum (records_in c) one,
+        length_sum (records_in c),
+        records_length c.list,
+      )
 
   module _ {last : List Item} (left_are : last ≡ left_in c) where
     -- What is left fits 32 bits in sum,

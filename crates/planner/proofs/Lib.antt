@@ -1,7 +1,5 @@
 pub mod Cuts
-pub mod Zeros
 pub mod Ascending
-pub mod Insertion
 pub mod Places
 pub mod SortedKeys
 pub mod ShelfOrder
@@ -19,6 +17,7 @@ pub mod Remainder
 pub mod Filling
 pub mod WrittenTo
 pub mod FillingKeys
+pub mod FirstPlaces
 pub mod NextDisk
 pub mod StoredInOrder
 pub mod FilledTo
@@ -26,6 +25,8 @@ pub mod ShelvedTo
 pub mod ShelvedMore
 pub mod ShelfTables
 pub mod ShelfSteps
+pub mod KeyRuns
 pub mod LeftFilms
+pub mod KeysAgain
 pub mod Answered
 pub mod Fulfilled

@@ -2,18 +2,19 @@
 use mathlib.Core.Path.{◌≡◌, sym, ap, ap₂, ◌∙◌, subst}
 use mathlib.Core.Bool.{true}
 use mathlib.Core.List.{List}
-use Prim.Native.Nat.{ℕ, ◌+◌, ◌≤◌, ◌<◌, min}
+use Prim.Native.Nat.{ℕ, ◌+◌, ◌≤◌, ◌<◌}
 use native.Mathlib.Omega.{arith}
-use lib.ListN.{length, take, get_or}
+use lib.ListN.{length, get_or}
+use lib.Seq.{get_or-take}
 use Rattle.placement.specs.Rack.{Disk, disk, all_slots, rack_accepted}
 use Rattle.placement.specs.Packed.{disk_in, disks_in}
 use Rattle.placement.proofs.Each.{each_at}
-use Rattle.placement.proofs.Racks.{accepted_disks, accepted_all_slots}
+use Rattle.placement.proofs.Racks.{accepted_disks}
 use Rattle.placement.proofs.DiskRanges.{DiskInRange, accepted_range}
 use Rattle.placement.proofs.Offsets.{offset, disk_at, offset_room}
 use Rattle.placement.proofs.PackedRacks.{disks_length, disk_packed}
 use Rattle.planner.specs.Keys.{item_of}
-use Rattle.planner.specs.Order.{order_of, order_keys}
+use Rattle.planner.specs.Order.{order_of, Ordered}
 use Rattle.planner.proofs.FillingKeys.{next_number, next_key}
 
 -- The disk at place i of the filling order has this number, this first place, and these slots and streams.
@@ -26,7 +27,7 @@ pub record NextDisk (rack : List ℕ) (i number first slots streams : ℕ) : Typ
   pub range : DiskInRange (disk slots streams)
 
 module _
-    (rack order : List ℕ) (ordered : order ≡ order_keys (disks_in rack)) (e : rack_accepted (disks_in rack) ≡ true) (i : ℕ) (h : i < length rack)
+    {rack order firsts : List ℕ} (ordered : Ordered rack order firsts) (e : rack_accepted (disks_in rack) ≡ true) (i : ℕ) (h : i < length rack)
     {number : ℕ} (read : number ≡ (item_of (get_or order i 0)).film)
   where
     few : length (disks_in rack) ≤ 64
@@ -39,7 +40,7 @@ module _
     number_is =
         sym
         (read
-        ∙ ap (λ (key : ℕ). (item_of key).film) (ap (λ (keys : List ℕ). get_or keys i 0) ordered)
+        ∙ ap (λ (key : ℕ). (item_of key).film) (sym (get_or-take (length rack) order i 0 h) ∙ ap (λ (keys : List ℕ). get_or keys i 0) ordered.keys)
         ∙ next_key (disks_in rack) i inside (omega (arith, few)))
 
     -- The number is that of a disk.
@@ -48,7 +49,7 @@ module _
 
     -- What is read of the disk.
     pub next_disk :
-        {first slots streams : ℕ} → first ≡ min (all_slots (take number (disks_in rack))) 2048 → slots ≡ (disk_in (get_or rack number 0)).slots
+        {first slots streams : ℕ} → first ≡ get_or firsts number 0 → slots ≡ (disk_in (get_or rack number 0)).slots
         → streams ≡ (disk_in (get_or rack number 0)).load → NextDisk rack i number first slots streams
     next_disk {first} {slots} {streams} first_is slots_are streams_are = record {
       numbered = number_is;
@@ -65,4 +66,4 @@ module _
         same = disk_packed rack number ∙ ap₂ disk (sym slots_are) (sym streams_are)
 
         start : first ≡ offset (disks_in rack) number
-        start = omega (arith, first_is, offset_room (disks_in rack) number (omega (arith, number_below, disks_length rack)), accepted_all_slots (disks_in rack) e)
+        start = first_is ∙ ordered.places number number_below

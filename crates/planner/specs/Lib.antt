@@ -3,9 +3,8 @@ pub mod Keys
 pub mod Answers
 pub mod Search
 pub mod Copies
+pub mod Verdicts
 pub mod Plannable
 pub mod Shelf
 pub mod Order
 pub mod Behind
-pub mod WorkingList
-pub mod Entries

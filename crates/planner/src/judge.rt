@@ -1,24 +1,25 @@
-// The refusals of planning, in the order of documents 01 and 02, from the rack, the list and the
-// lengths of the lent tables.
-ghost use Rattle.std.specs.Prelude.{◌≡◌};
-ghost use Rattle.refusal.specs.Numbers.{verdict_of};
+// The refusals of planning, in the order of documents 01 and 02, from the rack, the list and the lengths of the lent tables.
 ghost use Rattle.placement.specs.Packed.{disks_in};
-ghost use Rattle.placement.specs.Planning.{call, verdict};
-ghost use Rattle.placement.specs.LentTables.{held};
+ghost use Rattle.placement.specs.Planning.{call};
+ghost use Rattle.planner.specs.Verdicts.{Judges};
 
 use demand_list::{judge_list, judge_shape};
-use placement::{LentTables, judge_rack};
+use placement::{judge_rack, room};
 use refusal::Refusal;
 
-// The first refusal of planning that applies. Not inlined, so that its table of seen films and the
-// lists of planning are not on the stack at the same time.
-#[inline(never)]
-pub(crate) fn judge(rack: &[u64], list: &[u8], tables: &LentTables) -> Result<(), Refusal>
-    ensures { verdict_of result ≡ verdict (call (disks_in rack.now) list.now) (held tables.now) }
+// The first refusal of planning that applies, for tables of these lengths.
+pub(crate) fn judge(
+    rack: &[u64],
+    list: &[u8],
+    copies: usize,
+    counts: usize,
+    left: usize,
+) -> Result<(), Refusal>
+    ensures { Judges (call (disks_in rack.now) list.now) copies counts left result }
 {
     judge_rack(rack)?;
     judge_shape(list)?;
-    if !tables.has_room(rack, list.len() / 8) {
+    if !room(rack, list.len() / 8, copies, counts, left) {
         return Err(Refusal::TablesTooShort);
     }
     judge_list(list)

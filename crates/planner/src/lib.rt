@@ -26,13 +26,10 @@ ghost use Rattle.planner.specs.Behind.{BehindPromise};
 pub use answer::PlanSums;
 use fulfil::fill_tables;
 use judge::judge;
-use placement::LentTables;
 use refusal::Refusal;
 
-// Plans for a rack of disks, one number each, from the bytes of a demand list. A plan goes into the
-// lent tables: each disk's copies from its first place on, the number of copies of each disk, and
-// what is left. A refusal changes none of them.
-// Kept: the three tables as slices, since this signature and the next one are public.
+// Plans for a rack of disks, one number each, from the bytes of a demand list. A plan goes into the lent tables: each disk's copies from its first place on,
+// the number of copies of each disk, and what is left. A refusal changes none of them.
 pub fn plan(
     rack: &[u64],
     list: &[u8],
@@ -48,11 +45,11 @@ pub fn plan(
     ensures unchanged { OnErr result
         (tables copies.new counts.new left.new ≡ tables copies.old counts.old left.old) }
 {
-    plan_behind(rack, list, copies, counts, left, Ok(()))
+    judge(rack, list, copies.len(), counts.len(), left.len())?;
+    Ok(fill_tables(rack, list, copies, counts, left))
 }
 
-// Plans as `plan` does, unless another judgement, which stands behind planning's refusals, is a
-// refusal.
+// Plans as `plan` does, unless another judgement, which stands behind planning's refusals, is a refusal.
 pub fn plan_behind(
     rack: &[u64],
     list: &[u8],
@@ -70,11 +67,6 @@ pub fn plan_behind(
     ensures unchanged { OnErr result
         (tables copies.new counts.new left.new ≡ tables copies.old counts.old left.old) }
 {
-    let mut tables = LentTables {
-        copies,
-        counts,
-        left,
-    };
-    judge(rack, list, &tables).and(behind)?;
-    Ok(fill_tables(rack, list, &mut tables))
+    judge(rack, list, copies.len(), counts.len(), left.len()).and(behind)?;
+    Ok(fill_tables(rack, list, copies, counts, left))
 }

@@ -2,34 +2,44 @@
 ghost use Rattle.std.specs.Prelude.{◌≡◌, map, ◌+◌, ◌≤◌, ◌<◌, length, get_or};
 ghost use Rattle.placement.specs.Disk.{last_film};
 ghost use Rattle.placement.specs.Tables.{entry_of, padded, written};
-ghost use Rattle.planner.specs.Keys.{item_of};
-ghost use Rattle.planner.specs.Copies.{less_last};
+ghost use Rattle.planner.specs.Copies.{run_of, less_last};
 
-use crate::key::Key;
+use crate::key;
 use placement::entry_of;
 
-// Stores the entries of a run, `over` less for its last one.
-fn store_run(table: &mut [u64], run: &[Key], over: u32)
-    requires places_in_bounds { length run.now ≤ length table.old }
-    requires over_bound { over ≤ (last_film (map item_of run.now)).amount }
-    ensures { table.new ≡ written (map entry_of (less_last over (map item_of run.now))) table.old }
+// The entry at a place: the run's key, `over` less for its last one, and 0 behind the run.
+fn entry_at(keys: &[u64], start: usize, size: usize, over: u32, place: usize) -> u64
+    requires size_in_bounds { start + size ≤ length keys.now }
+    requires over_bound { over ≤ (last_film (run_of keys.now start size)).amount }
+    ensures { result ≡ get_or (map entry_of (less_last over (run_of keys.now start size))) place 0 }
 {
-    let Some((last, others)) = run.split_last() else {
-        return;
-    };
-    for (place, key) in others.iter().enumerate() {
-        table[place] = key.as_entry();
+    if size <= place {
+        return 0;
     }
-    table[others.len()] = entry_of(last.film(), last.amount() - over);
+    let key = keys[start + place];
+    if place + 1 < size {
+        return key::as_entry(key);
+    }
+    entry_of(key::film(key), key::amount(key) - over)
 }
 
 // Stores the entries of a run, `over` less for its last one, and zeros behind them up to `places`.
-pub(crate) fn store_entries(table: &mut [u64], run: &[Key], over: u32, places: usize)
-    requires places_in_bounds { (length run.now ≤ places) × (places ≤ length table.old) }
-    requires over_bound { over ≤ (last_film (map item_of run.now)).amount }
+pub(crate) fn store_entries(
+    table: &mut [u64],
+    keys: &[u64],
+    start: usize,
+    size: usize,
+    over: u32,
+    places: usize,
+)
+    requires size_in_bounds { (start + size ≤ length keys.now) × (size ≤ places) × (places ≤ length table.old) }
+    requires over_bound { over ≤ (last_film (run_of keys.now start size)).amount }
     ensures { table.new
-        ≡ written (padded places (map entry_of (less_last over (map item_of run.now)))) table.old }
+        ≡ written (padded places (map entry_of (less_last over (run_of keys.now start size)))) table.old }
 {
-    store_run(table, run, over);
-    table[run.len()..places].fill(0);
+    let mut place = 0;
+    while place < places {
+        table[place] = entry_at(keys, start, size, over, place);
+        place += 1;
+    }
 }

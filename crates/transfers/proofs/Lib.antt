@@ -3,6 +3,7 @@ pub mod Passing
 pub mod Starting
 pub mod Inserting
 pub mod DiskKeys
+pub mod Overwriting
 pub mod FreeRounds
 pub mod Busy
 pub mod RackKeys

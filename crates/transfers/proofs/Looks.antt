@@ -1,8 +1,8 @@
 -- Keys looked up one after the other: what the key at a place says of the copies from it on.
-use mathlib.Core.Path.{◌≡◌, refl, sym, ap, ◌∙◌}
+use mathlib.Core.Path.{◌≡◌, sym, ap, ◌∙◌}
 use mathlib.Core.Bool.{Bool, true, ◌||◌}
-use mathlib.Core.List.{List, [], ◌∷◌, map}
-use Prim.Native.Nat.{ℕ, zero, suc, ◌+◌, ◌/◌, ◌%◌, ◌<◌}
+use mathlib.Core.List.{List, ◌∷◌, map}
+use Prim.Native.Nat.{ℕ, suc, ◌+◌, ◌/◌, ◌%◌, ◌<◌}
 use native.Mathlib.Numerals.{add-one}
 use native.Mathlib.Omega.{arith}
 use borrow.Author.Tests.{eq-eqb, ne_eqb}
@@ -12,15 +12,6 @@ use lib.Seq.{drop-cons}
 use Rattle.placement.proofs.Conjunctions.{and_holds, cond_true, cond_false}
 use Rattle.transfer_schedule.specs.Stored.{StoredCopy, same_copy, is_stored, source_of}
 use Rattle.transfers.specs.Keys.{stored_in}
-
--- The key that is read at a place in range is the member there, whatever stands for the others.
-pub key_at : (keys : List ℕ) (i key : ℕ) → i < length keys → key ≡ get_or keys i key → key ≡ get_or keys i 0
-key_at keys i key less read = read ∙ go keys i less
-  where
-    go : (keys : List ℕ) (i : ℕ) → i < length keys → get_or keys i key ≡ get_or keys i 0
-    go [] i less = absurd (omega arith)
-    go (k ∷ keys) zero less = refl
-    go (k ∷ keys) (suc i) less = go keys i (omega arith)
 
 -- The same copy.
 same_true : (x y : StoredCopy) → x ≡ y → same_copy x y ≡ true

@@ -10,9 +10,9 @@ use native.Mathlib.Numerals.{add-one}
 use native.Mathlib.Omega.{arith}
 use borrow.Author.Tests.{le-leb, lt-leb, ltb-false, eqb-true, eqb-false}
 use lib.Dec.{eqb}
-use lib.ListN.{length, take, drop, get_or, length-map, length-drop, drop_of_length-le}
+use lib.ListN.{length, take, drop, get_or, set, length-map, length-drop, drop_of_length-le}
 use Rattle.std.proofs.lemmas.List.{take_all}
-use lib.Seq.{get_or-drop}
+use lib.Seq.{get_or-drop, take-set-le, take-suc-set}
 use Rattle.placement.specs.WellFormed.{Each}
 use Rattle.placement.proofs.Tests.{by_order, by_test}
 use Rattle.placement.proofs.Conjunctions.{cond_true, cond_false}
@@ -22,7 +22,7 @@ use Rattle.transfer_schedule.specs.Words.{StandsBefore, InOrderBehind, InOrder}
 use Rattle.transfer_schedule.proofs.Mapped.{mapped_more, map_last}
 use Rattle.transfer_schedule.proofs.Lacking.{lacking_append}
 use Rattle.transfer_schedule.proofs.Ordered.{before_other, behind_absent}
-use Rattle.transfers.specs.Keys.{stored_in, PassedTo}
+use Rattle.transfers.specs.Keys.{stored_in, stored_at, PassedTo}
 use Rattle.transfers.proofs.Looks.{copy_here, stored_found}
 
 -- Keys of copies in order ascend,
@@ -185,25 +185,47 @@ pub below_higher : (low high : ℕ) (keys : List ℕ) → low < high → Each (�
 below_higher low high [] less below = tt
 below_higher low high (k ∷ keys) less below = (omega (arith, below.0), below_higher low high keys less below.1)
 
+-- A key is put behind the first n, and is one of them where it is not stored in the old plan.
+put_more :
+    (n key : ℕ) (keys : List ℕ) (b : Bool) → n < length keys
+    → stored_at (n + cond b 0 1) (set keys n key) ≡ stored_at n keys ++ cond b [] (stored_in key ∷ [])
+put_more n key keys true less =
+    let same : n + 0 ≡ n = omega arith in
+    ap (λ (m : ℕ). stored_at m (set keys n key)) same
+    ∙ ap (map stored_in) (take-set-le n keys n key (omega arith))
+    ∙ sym (append-nil (stored_at n keys))
+put_more n key keys false less =
+    ap (λ (m : ℕ). stored_at m (set keys n key)) (add-one n)
+    ∙ ap (map stored_in) (take-suc-set keys n key less)
+    ∙ map_last stored_in (take n keys) key
+
+-- So the keys of the copies that the old plan lacks stand in front, with one copy more.
+pub lacking_more :
+    (old : List StoredCopy) (new keys : List ℕ) (i n : ℕ) → i < length new → n < length keys → stored_at n keys ≡ lacking old (map stored_in (take i new))
+    → stored_at (n + cond (is_stored (stored_in (get_or new i 0)) old) 0 1) (set keys n (get_or new i 0)) ≡ lacking old (map stored_in (take (i + 1) new))
+lacking_more old new keys i n less room e =
+    put_more n (get_or new i 0) keys (is_stored c old) room
+    ∙ ap (λ (front : List StoredCopy). front ++ cond (is_stored c old) [] (c ∷ [])) e
+    ∙ sym (ap (lacking old) (mapped_more stored_in 0 new i less) ∙ lacking_append old (map stored_in (take i new)) (c ∷ []))
+  where
+    c : StoredCopy
+    c = stored_in (get_or new i 0)
+
 -- A key that is stored in the old plan is passed,
 pub lacking_stored :
-    (old : List StoredCopy) (new keys : List ℕ) (i : ℕ) → i < length new → is_stored (stored_in (get_or new i 0)) old ≡ true
-    → map stored_in keys ≡ lacking old (map stored_in (take i new)) → map stored_in keys ≡ lacking old (map stored_in (take (i + 1) new))
-lacking_stored old new keys i less stored e =
+    (old : List StoredCopy) (new keys : List ℕ) (i n : ℕ) → i < length new → is_stored (stored_in (get_or new i 0)) old ≡ true
+    → stored_at n keys ≡ lacking old (map stored_in (take i new)) → stored_at n keys ≡ lacking old (map stored_in (take (i + 1) new))
+lacking_stored old new keys i n less stored e =
     let c = stored_in (get_or new i 0) in
     e
     ∙ sym (append-nil (lacking old (map stored_in (take i new))))
     ∙ ap (λ (b : Bool). lacking old (map stored_in (take i new)) ++ cond b [] (c ∷ [])) (sym stored)
     ∙ sym (ap (lacking old) (mapped_more stored_in 0 new i less) ∙ lacking_append old (map stored_in (take i new)) (c ∷ []))
 
--- and another one is put behind the others.
+-- and another one is put behind those in front.
 pub lacking_put :
-    (old : List StoredCopy) (new keys : List ℕ) (i : ℕ) → i < length new → is_stored (stored_in (get_or new i 0)) old ≡ false
-    → map stored_in keys ≡ lacking old (map stored_in (take i new))
-    → map stored_in (keys ++ (get_or new i 0 ∷ [])) ≡ lacking old (map stored_in (take (i + 1) new))
-lacking_put old new keys i less other e =
-    let c = stored_in (get_or new i 0) in
-    map_last stored_in keys (get_or new i 0)
-    ∙ ap (λ (front : List StoredCopy). front ++ (c ∷ [])) e
-    ∙ ap (λ (b : Bool). lacking old (map stored_in (take i new)) ++ cond b [] (c ∷ [])) (sym other)
-    ∙ sym (ap (lacking old) (mapped_more stored_in 0 new i less) ∙ lacking_append old (map stored_in (take i new)) (c ∷ []))
+    (old : List StoredCopy) (new keys : List ℕ) (i n : ℕ) → i < length new → n < length keys → is_stored (stored_in (get_or new i 0)) old ≡ false
+    → stored_at n keys ≡ lacking old (map stored_in (take i new))
+    → stored_at (n + 1) (set keys n (get_or new i 0)) ≡ lacking old (map stored_in (take (i + 1) new))
+lacking_put old new keys i n less room other e =
+    ap (λ (b : Bool). stored_at (n + cond b 0 1) (set keys n (get_or new i 0))) (sym other) ∙ lacking_more old new keys i n less room e

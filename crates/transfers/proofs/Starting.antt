@@ -1,13 +1,13 @@
 -- Where the search for a film starts: copies are noted from the last to the first, and none before the start has the film.
 use mathlib.Core.Path.{◌≡◌, refl, sym, ap, subst, ◌∙◌}
-use mathlib.Core.List.{List, [], ◌∷◌, ◌++◌, map}
-use Prim.Native.Nat.{ℕ, zero, suc, ◌+◌, ◌-◌, ◌%◌, ◌≤◌, ◌<◌, min}
+use mathlib.Core.List.{List, [], ◌∷◌, map}
+use Prim.Native.Nat.{ℕ, zero, suc, ◌+◌, ◌-◌, ◌%◌, ◌≤◌, min}
 use native.Mathlib.Omega.{arith}
 use borrow.Author.Tests.{eqb-true, eqb-false, ne_eqb}
 use lib.Dec.{eqb}
-use lib.ListN.{length, get_or, take, drop, set, length-append, length-drop, drop_of_length-le}
+use lib.ListN.{length, get_or, take, drop, set, length-drop, drop_of_length-le}
 use Rattle.std.proofs.lemmas.List.{take_all, drop-map}
-use lib.Seq.{take-nil, take_at, take-take, get_or_at, get_or-take, get_or-set_same, get_or-set_other}
+use lib.Seq.{take-nil, get_or-set_same, get_or-set_other}
 use Rattle.placement.proofs.Tests.{by_test, by_order}
 use Rattle.placement.proofs.Conjunctions.{cond_false}
 use Rattle.transfer_schedule.specs.Stored.{StoredCopy, source_of}
@@ -57,17 +57,17 @@ starts_all starts cs from film =
 -- One copy more in front, whose place is noted.
 module _ (starts : List ℕ) (cs : List StoredCopy) (i key : ℕ) (here : drop i cs ≡ stored_in key ∷ drop (i + 1) cs) (wide : length starts ≡ start_places) where
   abbrev noted : List ℕ
-  noted = set starts (key % 16777216 % start_places) i
+  noted = set starts (key % start_places) i
 
   -- Films with its remainder start there,
-  own_start : (film : ℕ) → film % start_places ≡ key % 16777216 % start_places → get_or noted (film % start_places) 0 - i ≡ 0
+  own_start : (film : ℕ) → film % start_places ≡ key % start_places → get_or noted (film % start_places) 0 - i ≡ 0
   own_start film same =
       let at : get_or noted (film % start_places) 0 ≡ i =
-      ap (λ (k : ℕ). get_or noted k 0) same ∙ get_or-set_same starts (key % 16777216 % start_places) i 0 (omega (arith, wide)) in
+      ap (λ (k : ℕ). get_or noted k 0) same ∙ get_or-set_same starts (key % start_places) i 0 (omega (arith, wide)) in
       omega arith
 
   -- and for the others it is one more that has not the film.
-  other_film : (film : ℕ) → (film % start_places ≡ key % 16777216 % start_places → ⊥) → (stored_in key).film ≡ film → ⊥
+  other_film : (film : ℕ) → (film % start_places ≡ key % start_places → ⊥) → (stored_in key).film ≡ film → ⊥
   other_film film apart same = apart (omega (arith, same))
 
   passed_more :
@@ -84,29 +84,9 @@ module _ (starts : List ℕ) (cs : List StoredCopy) (i key : ℕ) (here : drop i
 
   pub starts_more : StartsFrom starts cs (i + 1) → StartsFrom noted cs i
   starts_more before film =
-      by_test (eqb (film % start_places) (key % 16777216 % start_places))
-      (λ e. subst (λ (n : ℕ). NoneOf film (take n (drop i cs))) (sym (own_start film (eqb-true (film % start_places) (key % 16777216 % start_places) e))) tt)
+      by_test (eqb (film % start_places) (key % start_places))
+      (λ e. subst (λ (n : ℕ). NoneOf film (take n (drop i cs))) (sym (own_start film (eqb-true (film % start_places) (key % start_places) e))) tt)
       (λ e.
-      let apart : (film % start_places ≡ key % 16777216 % start_places) → ⊥ = eqb-false (film % start_places) (key % 16777216 % start_places) e in
-      subst (λ (start : ℕ). NoneOf film (take (start - i) (drop i cs))) (sym (get_or-set_other starts (key % 16777216 % start_places) (film % start_places) i 0 apart))
+      let apart : (film % start_places ≡ key % start_places) → ⊥ = eqb-false (film % start_places) (key % start_places) e in
+      subst (λ (start : ℕ). NoneOf film (take (start - i) (drop i cs))) (sym (get_or-set_other starts (key % start_places) (film % start_places) i 0 apart))
       (passed_more film (get_or starts (film % start_places) 0) (other_film film apart) (before film)))
-
--- The last of the keys that are left stands behind the others.
-pub record LastLeft (rest old : List ℕ) (key : ℕ) : Type 0 where
-  pub less : length rest < length old
-  pub left : rest ≡ take (length rest) old
-  pub here : key ≡ get_or old (length rest) 0
-  pub longer : length rest + 1 ≡ length (rest ++ (key ∷ []))
-
-pub last_left :
-    (before rest old : List ℕ) (key : ℕ) → before ≡ rest ++ (key ∷ []) → before ≡ take (length before) old → length before ≤ length old → LastLeft rest old key
-last_left before rest old key is left few =
-    let i = length rest in
-    let longer : length before ≡ i + 1 = omega (arith, ap length is, length-append rest (key ∷ [])) in
-    let both : rest ++ (key ∷ []) ≡ take (i + 1) old = sym is ∙ left ∙ ap (λ (n : ℕ). take n old) longer in
-    record {
-      less = omega (arith, longer, few);
-      left = sym (take_at rest (key ∷ []) i refl) ∙ ap (take i) both ∙ take-take i (i + 1) old (omega arith);
-      here = sym (get_or_at rest key [] 0 i refl) ∙ ap (λ (l : List ℕ). get_or l i 0) both ∙ get_or-take (i + 1) old i 0 (omega arith);
-      longer = sym longer ∙ ap length is;
-    }

@@ -1,20 +1,22 @@
 -- A rack of at most 8 disks has at most 256 slots, and keys are read back as their copies.
-use mathlib.Core.Path.{◌≡◌, refl, ap, ap₂, ◌∙◌}
+use mathlib.Core.Path.{◌≡◌, refl, sym, ap, ap₂, ◌∙◌}
 use mathlib.Core.Bool.{true}
 use mathlib.Core.List.{List, [], ◌∷◌, map}
 use Prim.Native.Nat.{ℕ, suc, ◌+◌, ◌*◌, ◌/◌, ◌%◌, ◌≤◌, ◌<◌}
 use native.Mathlib.Omega.{arith}
-use lib.ListN.{length}
+use lib.ListN.{length, drop, length-map}
+use lib.Seq.{take_at}
 use Rattle.placement.specs.Items.{Item}
 use Rattle.placement.specs.Copies.{copy_of}
 use Rattle.placement.specs.Rack.{Disk, all_slots, all_in_range, disk_in_range, disks_in_range, in_range, most_disks, most_slots, most_load, rack_accepted}
+use Rattle.placement.specs.Tables.{written}
 use Rattle.placement.specs.Held.{copies_from, marked_from}
 use Rattle.placement.specs.WellFormed.{Each}
 use Rattle.placement.proofs.Conjunctions.{both_true}
 use Rattle.placement.proofs.Each.{each_append}
 use Rattle.placement.proofs.Tests.{in_range_bounds}
 use Rattle.transfer_schedule.specs.Stored.{StoredCopy, stored_copy, ascending, films_of, stored_from}
-use Rattle.transfers.specs.Keys.{copy_key, stored_in}
+use Rattle.transfers.specs.Keys.{copy_key, stored_in, stored_at}
 use Rattle.transfer_schedule.proofs.Inserted.{ascending_each}
 
 -- Disks in range have at most 32 slots each.
@@ -64,9 +66,12 @@ all_read : (cs : List StoredCopy) → Each (λ (c : StoredCopy). c.film < 65536)
 all_read [] all = refl
 all_read (c ∷ cs) all = ap₂ (λ (x : StoredCopy) (xs : List StoredCopy). x ∷ xs) (key_read c all.0) (all_read cs all.1)
 
--- The keys of a plan's tables are read back as its stored copies.
+-- The keys of a plan's tables, put in front, are read back as its stored copies.
 pub keys_read :
-    (rack : List Disk) (copies counts keys : List ℕ) → keys ≡ map copy_key (stored_from 1 (marked_from rack copies counts))
-    → map stored_in keys ≡ stored_from 1 (marked_from rack copies counts)
-keys_read rack copies counts keys e =
-    ap (map stored_in) e ∙ all_read (stored_from 1 (marked_from rack copies counts)) (copies_small 1 (copies_from rack copies counts))
+    (rack : List Disk) (copies counts keys keys' : List ℕ) (n : ℕ) → keys' ≡ written (map copy_key (stored_from 1 (marked_from rack copies counts))) keys
+    → n ≡ length (stored_from 1 (marked_from rack copies counts)) → stored_at n keys' ≡ stored_from 1 (marked_from rack copies counts)
+keys_read rack copies counts keys keys' n e number =
+    let cs = stored_from 1 (marked_from rack copies counts) in
+    ap (stored_at n) e
+    ∙ ap (map stored_in) (take_at (map copy_key cs) (drop (length (map copy_key cs)) keys) n (length-map cs copy_key ∙ sym number))
+    ∙ all_read cs (copies_small 1 (copies_from rack copies counts))

@@ -4,14 +4,14 @@ use mathlib.Core.List.{List, ◌++◌, map}
 use mathlib.Core.Logic.{◌⊎◌}
 use Prim.Native.Nat.{ℕ, ◌≤◌, ◌<◌}
 use native.Mathlib.Omega.{arith}
-use lib.ListN.{length, drop, length-map}
+use lib.ListN.{length, take, drop}
 use Rattle.refusal.specs.Verdict.{Verdict, given, refused, Numbers}
 use Rattle.placement.specs.Tables.{written}
 use Rattle.placement.specs.WellFormed.{Each}
 use Rattle.transfer_schedule.specs.Schedule.{Transfer}
 use Rattle.transfer_schedule.specs.Counts.{ends, count_table}
 use Rattle.transfer_schedule.specs.Transfers.{Plans, texts_verdict, transfers_of, transfers_verdict, transfer_entry, transfer_in, ScheduleSize, schedule_size, transfers_answer, list_given, table_given, transferring, entries_after, table_after}
-use Rattle.transfer_schedule.specs.Fits.{most_transfers, TransferFits}
+use Rattle.transfer_schedule.specs.Fits.{TransferFits}
 use Rattle.transfers.specs.Keys.{TransfersMade, WorkedOut}
 use Rattle.transfer_schedule.proofs.Entries.{transfers_entries}
 use Rattle.transfer_schedule.proofs.BothTexts.{texts_late}
@@ -32,7 +32,7 @@ keeps_by :
 keeps_by old new list table v e =
     (answer_by old new (length list) (length table) v e, list_by old new list (length table) v e, table_by old new (length list) table v e)
 
--- Transfers whose entries these are.
+-- Transfers whose entries stand in front.
 module _ (ts : List Transfer) (entries : List ℕ) (answer : Numbers ScheduleSize) (o : TransfersMade ts entries answer) where
   no_refusal : answer.refusal ≡ 0
   no_refusal = ap (λ (a : Numbers ScheduleSize). a.refusal) o.told
@@ -40,11 +40,11 @@ module _ (ts : List Transfer) (entries : List ℕ) (answer : Numbers ScheduleSiz
   number_told : answer.values.transfers ≡ length ts
   number_told = ap (λ (a : Numbers ScheduleSize). a.values.transfers) o.told
 
-  entries_number : length entries ≡ answer.values.transfers
-  entries_number = ap length o.listed ∙ length-map ts transfer_entry ∙ sym number_told
+  entries_told : take answer.values.transfers entries ≡ map transfer_entry ts
+  entries_told = ap (λ (n : ℕ). take n entries) number_told ∙ o.front
 
-  transfers_told : map transfer_in entries ≡ ts
-  transfers_told = ap (map transfer_in) o.listed ∙ transfers_entries ts o.fit
+  transfers_told : map transfer_in (take answer.values.transfers entries) ≡ ts
+  transfers_told = ap (map transfer_in) entries_told ∙ transfers_entries ts o.fit
 
 module _ (old new entries : List ℕ) (answer : Numbers ScheduleSize) (w : WorkedOut (texts_verdict old new) entries answer) where
   -- Where the texts are refused, the list and the table stay.
@@ -81,24 +81,24 @@ module _ (old new entries : List ℕ) (answer : Numbers ScheduleSize) (w : Worke
   -- and with enough of both the entries are written and counted.
   pub worked_given :
       (list : List ℕ) (table : List (List ℕ)) → answer.refusal ≡ 0 → answer.values.transfers ≤ length list → ends ≤ length table
-      → Keeps old new list table answer (written entries list) (count_table (map transfer_in entries) ++ drop ends table)
+      → Keeps old new list table answer (written (take answer.values.transfers entries) list)
+      (count_table (map transfer_in (take answer.values.transfers entries)) ++ drop ends table)
   worked_given list table none few all =
       by_plans none (λ both e o.
       let ts = transfers_of both in
       let enough : length ts ≤ length list = omega (arith, few, number_told ts entries answer o) in
       let kept = keeps_by old new list table (given ts) (judged_given old new (length list) (length table) both e enough all) in (
         o.told ∙ kept.0,
-        ap (λ (es : List ℕ). written es list) o.listed ∙ kept.1,
+        ap (λ (es : List ℕ). written es list) (entries_told ts entries answer o) ∙ kept.1,
         ap (λ (us : List Transfer). count_table us ++ drop ends table) (transfers_told ts entries answer o) ∙ kept.2,
       ))
 
-  -- The entries are of transfers that have room in them, and there are so many, at most 256.
+  -- The entries in front are of transfers that have room in them, and there are so many.
   pub worked_fits :
       answer.refusal ≡ 0
-      → Each TransferFits (map transfer_in entries) × (length entries ≡ answer.values.transfers) × (length entries ≤ most_transfers)
+      → Each TransferFits (map transfer_in (take answer.values.transfers entries)) × (answer.values.transfers ≤ length entries)
   worked_fits none =
       by_plans none (λ both e o. (
         subst (Each TransferFits) (sym (transfers_told (transfers_of both) entries answer o)) o.fit,
-        entries_number (transfers_of both) entries answer o,
-        omega (arith, o.few, entries_number (transfers_of both) entries answer o, number_told (transfers_of both) entries answer o),
+        omega (arith, o.room, number_told (transfers_of both) entries answer o),
       ))

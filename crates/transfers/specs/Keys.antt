@@ -1,7 +1,6 @@
 -- What the steps of transfers hold: stored copies and transfers as numbers, and which ends are busy in which round.
 use Rattle.std.specs.Prelude.{ℕ, suc, ◌+◌, ◌*◌, ◌/◌, ◌%◌, ◌≤◌, ◌<◌, ◌≡◌, Bool, true, cond, List, [], ◌∷◌, ◌++◌, map, ◌⊎◌, eqb, length, take, get_or}
 use Rattle.std.specs.Coded.{Unit-prop, ×_prop, →_prop, Π_prop}
-use Rattle.arrayvec.specs.ArrayVec.{ArrayVec}
 use Rattle.refusal.specs.Verdict.{Verdict, given, refused, Numbers}
 use Rattle.placement.specs.Rack.{Disk}
 use Rattle.placement.specs.Packed.{disks_in}
@@ -21,6 +20,10 @@ copy_key c = c.disk * 16777216 + c.film
 
 abbrev pub stored_in : ℕ → StoredCopy
 stored_in key = stored_copy (key / 16777216) (key % 16777216)
+
+-- The stored copies of the first n keys.
+abbrev pub stored_at : ℕ → List ℕ → List StoredCopy
+stored_at n keys = map stored_in (take n keys)
 
 -- The tables of a plan have a place for each slot and each disk, and zero entries behind at most as many copies as slots.
 pub record TablesFit (rack : List Disk) (copies counts : List ℕ) : Type 0 where
@@ -110,37 +113,39 @@ pub record PassedTo (keys : List ℕ) (key at : ℕ) : Type 0 where
   pub below : Each (λ k. k < key) (take at keys)
   pub next : at < length keys → key ≤ get_or keys at 0
 
--- The keys are those of a plan's stored copies, unless its rack has more than 8 disks.
-abbrev pub KeysOf : Plan → (keys : List ℕ) → Type 0
-KeysOf p keys = length p.rack ≤ most_transfer_disks → map stored_in keys ≡ stored_copies p
+-- The disks of a rack, and how many keys stand in front for these copies, unless the rack has more than 8 disks.
+abbrev pub KeysHold : (disks : ℕ) → List StoredCopy → (keys : List ℕ) → Verdict (ℕ × ℕ) → Type 0
+KeysHold disks copies keys v =
+    (n : ℕ) × (v ≡ given (disks, n)) × (n ≤ length keys) × (disks ≤ most_transfer_disks → stored_at n keys ≡ copies)
 
--- A text that is refused, or whose plan's rack stands in front, with its number of disks and the keys of its stored copies.
-abbrev pub StoredText : Verdict Plan → (rack : List ℕ) → Verdict (ℕ × ArrayVec ℕ) → Type 0
-StoredText (refused number second) rack v = v ≡ refused number second
-StoredText (given p) rack v =
-    (disks_in (take (length p.rack) rack) ≡ p.rack) × ((keys : ArrayVec ℕ) × (v ≡ given (length p.rack, keys)) × KeysOf p keys.items)
+-- A text that is refused, or whose plan's rack and stored copies stand in front.
+abbrev pub StoredText : Verdict Plan → (rack keys : List ℕ) → Verdict (ℕ × ℕ) → Type 0
+StoredText (refused number second) rack keys v = v ≡ refused number second
+StoredText (given p) rack keys v =
+    (disks_in (take (length p.rack) rack) ≡ p.rack) × KeysHold (length p.rack) (stored_copies p) keys v
 
--- The new text behind an old one with this rack and these keys.
-abbrev pub StoredNew : Verdict Plan → (old : List Disk) → (keys : ArrayVec ℕ) → Verdict (ArrayVec ℕ × ArrayVec ℕ) → Type 0
-StoredNew (refused number second) old keys v = v ≡ refused number second
-StoredNew (given p) old keys v =
-    (keys' : ArrayVec ℕ) × (v ≡ racks_judged old p.rack (given (keys, keys'))) × KeysOf p keys'.items
+-- The new text behind an old one with this rack and so many copies.
+abbrev pub StoredNew : Verdict Plan → (old : List Disk) → (copies : ℕ) → (keys : List ℕ) → Verdict (ℕ × ℕ) → Type 0
+StoredNew (refused number second) old copies keys v = v ≡ refused number second
+StoredNew (given p) old copies keys v =
+    (n : ℕ) × (v ≡ racks_judged old p.rack (given (copies, n))) × (n ≤ length keys)
+    × (length p.rack ≤ most_transfer_disks → stored_at n keys ≡ stored_copies p)
 
--- Two texts that are refused, or the keys of both plans' stored copies.
-abbrev pub StoredTexts : Verdict Plans → Verdict (ArrayVec ℕ × ArrayVec ℕ) → Type 0
-StoredTexts (refused number second) v = v ≡ refused number second
-StoredTexts (given both) v =
-    (old : ArrayVec ℕ) × (new : ArrayVec ℕ) × (v ≡ given (old, new))
-    × (map stored_in old.items ≡ stored_copies both.old) × (map stored_in new.items ≡ stored_copies both.new)
+-- Two texts that are refused, or whose plans' stored copies stand in front of both lists of keys.
+abbrev pub StoredTexts : Verdict Plans → (oldkeys newkeys : List ℕ) → Verdict (ℕ × ℕ) → Type 0
+StoredTexts (refused number second) oldkeys newkeys v = v ≡ refused number second
+StoredTexts (given both) oldkeys newkeys v =
+    (m : ℕ) × (n : ℕ) × (v ≡ given (m, n)) × (m ≤ length oldkeys) × (n ≤ length newkeys)
+    × (stored_at m oldkeys ≡ stored_copies both.old) × (stored_at n newkeys ≡ stored_copies both.new)
 
--- The answer for some transfers, and their entries.
+-- The answer for some transfers, whose entries stand in front.
 pub record TransfersMade (ts : List Transfer) (entries : List ℕ) (answer : Numbers ScheduleSize) : Type 0 where
   pub told : answer ≡ record { refusal = 0; second = 0; values = size_of ts }
-  pub listed : entries ≡ map transfer_entry ts
+  pub front : take (length ts) entries ≡ map transfer_entry ts
   pub fit : Each TransferFits ts
-  pub few : length ts ≤ most_transfers
+  pub room : length ts ≤ length entries
 
--- Two texts that are refused, or whose transfers the entries are.
+-- Two texts that are refused, or whose transfers stand in front of the entries.
 abbrev pub WorkedOut : Verdict Plans → (entries : List ℕ) → Numbers ScheduleSize → Type 0
 WorkedOut (refused number second) entries answer = answer ≡ record { refusal = number; second = second; values = schedule_size 0 0 }
 WorkedOut (given both) entries answer = TransfersMade (transfers_of both) entries answer

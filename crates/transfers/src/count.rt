@@ -5,10 +5,7 @@ ghost use Rattle.transfer_schedule.specs.Counts.{count_table};
 ghost use Rattle.transfer_schedule.specs.Transfers.{transfer_in};
 ghost use Rattle.transfer_schedule.specs.Fits.{TransferFits, most_transfers};
 
-use crate::entry::{destination_of, source_of};
-
-// Counts the transfers of some entries in a table of zeros.
-// Kept: the table comes and goes by value, which the scope asks to be used where it is in reach.
+// Counts the transfers of some entries in a table of zeros, which comes and goes by value.
 pub(crate) fn count_transfers(table: [[u32; 9]; 9], entries: &[u64]) -> [[u32; 9]; 9]
     requires { (table ≡ count_table []) × Each TransferFits (map transfer_in entries.now)
         × (length entries.now ≤ most_transfers) }
@@ -16,8 +13,9 @@ pub(crate) fn count_transfers(table: [[u32; 9]; 9], entries: &[u64]) -> [[u32; 9
 {
     let mut counts = table;
     for entry in entries {
-        let source = source_of(*entry);
-        let destination = destination_of(*entry);
+        let above = *entry / 65536;
+        let source = (above % 256) as usize;
+        let destination = (above / 256 % 256) as usize;
         counts[source][destination] += 1;
     }
     counts

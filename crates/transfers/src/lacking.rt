@@ -1,27 +1,21 @@
 // The new copies that the old plan hasn't on the same disk: both lists of keys ascend, so that one
 // pass over both finds them.
 ghost use Rattle.std.specs.Prelude.{◌≡◌, map, ◌≤◌, ◌<◌, length, take, nat_le, position};
-ghost use Rattle.arrayvec.specs.ArrayVec.{array_vec_len};
 ghost use Rattle.placement.specs.WellFormed.{Each};
 ghost use Rattle.transfer_schedule.specs.Stored.{is_stored};
 ghost use Rattle.transfer_schedule.specs.Schedule.{lacking};
 ghost use Rattle.transfer_schedule.specs.Words.{InOrder};
-ghost use Rattle.transfer_schedule.specs.Fits.{most_transfers};
-ghost use Rattle.transfers.specs.Keys.{stored_in, PassedTo};
-
-use crate::MOST_TRANSFERS;
-use crate::copy_key::CopyKey;
-use arrayvec::ArrayVec;
+ghost use Rattle.transfers.specs.Keys.{stored_in, stored_at, PassedTo};
 
 // The first place whose key is not below `key`.
-fn first_not_below(keys: &[CopyKey], key: CopyKey) -> Option<usize>
+fn first_not_below(keys: &[u64], key: u64) -> Option<usize>
     ensures { result ≡ position (λ k. nat_le key k) keys.now }
 {
     keys.iter().position(|k| key <= *k)
 }
 
 // The first place from `at` on whose key is not below `key`, or the end.
-fn pass_lower(old: &[CopyKey], at: usize, key: CopyKey) -> usize
+fn pass_lower(old: &[u64], at: usize, key: u64) -> usize
     requires { (at ≤ length old.now) × Each (λ k. k < key) (take at old.now) }
     ensures { PassedTo old.now key result }
 {
@@ -33,28 +27,29 @@ fn pass_lower(old: &[CopyKey], at: usize, key: CopyKey) -> usize
 }
 
 // Whether the old plan has the copy of a key: the key stands at the place that was passed to.
-fn stands_at(old: &[CopyKey], at: usize, key: CopyKey) -> bool
+fn stands_at(old: &[u64], at: usize, key: u64) -> bool
     requires { InOrder (map stored_in old.now) × PassedTo old.now key at }
     ensures { result ≡ is_stored (stored_in key) (map stored_in old.now) }
 {
     at < old.len() && old[at] == key
 }
 
-// The keys of the new copies that the old plan lacks. The old keys before `at` are below the next
-// one.
-pub(crate) fn lacking(old: &[CopyKey], new: &[CopyKey]) -> ArrayVec<CopyKey, MOST_TRANSFERS>
-    requires in_order { InOrder (map stored_in old.now) × InOrder (map stored_in new.now) }
-    requires few { length new.now ≤ most_transfers }
-    ensures value { map stored_in result.items ≡ lacking (map stored_in old.now) (map stored_in new.now) }
-    ensures upper_bound { array_vec_len result ≤ length new.now }
+// Puts the keys of the new copies that the old plan lacks in front, and answers how many there are.
+// The old keys before `at` are below the next one.
+pub(crate) fn put_lacking(old: &[u64], new: &[u64], keys: &mut [u64]) -> usize
+    requires { InOrder (map stored_in old.now) × InOrder (map stored_in new.now)
+        × (length new.now ≤ length keys.old) }
+    ensures keys_after { stored_at result keys.new ≡ lacking (map stored_in old.now) (map stored_in new.now) }
+    ensures upper_bound { result ≤ length new.now }
 {
-    let mut keys = ArrayVec::new();
+    let mut n = 0;
     let mut at = 0;
     for key in new {
         at = pass_lower(old, at, *key);
         if !stands_at(old, at, *key) {
-            keys.push(*key);
+            keys[n] = *key;
+            n += 1;
         }
     }
-    keys
+    n
 }

@@ -3,17 +3,15 @@
 #![tactic(auto)]
 
 mod answer; // answer.rt: what transfers answer
-mod copy_key; // copy_key.rt: the key of a stored copy
 mod count; // count.rt: the table of counts
-mod entry; // entry.rt: the entry of a transfer
 mod lacking; // lacking.rt: the new copies that the old plan lacks
 mod rounds; // rounds.rt: which ends are busy in which round
 mod schedule; // schedule.rt: the transfers one after the other
 mod sources; // sources.rt: where a film is copied from
-mod stored; // stored.rt: the keys of stored copies
+mod stored; // stored.rt: stored copies as numbers
 mod texts; // texts.rt: the two texts
 
-ghost use Rattle.std.specs.Prelude.{◌≡◌, [], OnErr};
+ghost use Rattle.std.specs.Prelude.{◌≡◌, OnErr};
 ghost use Rattle.transfer_schedule.specs.Counts.{ends};
 ghost use Rattle.transfer_schedule.specs.Transfers.{texts_verdict};
 ghost use Rattle.transfer_schedule.specs.TransfersPromise.{TransfersPromise, CountsPromise, CountedPromise};
@@ -21,7 +19,6 @@ ghost use Rattle.transfers.specs.Keys.{WorkedOut};
 ghost use Rattle.transfers.specs.Answers.{transfer_numbers};
 
 pub use answer::InRounds;
-use arrayvec::ArrayVec;
 use count::count_transfers;
 use refusal::Refusal;
 use schedule::transfers_between;
@@ -33,18 +30,19 @@ const ROWS: usize = 9;
 // The most transfers: one for each copy of a new plan.
 pub(crate) const MOST_TRANSFERS: usize = 256;
 
-// Works out the transfers of two texts: their entries are put into an empty list, or the answer is
-// a refusal of the texts.
+// Works out the transfers of two texts: their entries stand in front, or the answer is a refusal of
+// the texts.
 fn work_out(
     old: &[u8],
     new: &[u8],
-    entries: &mut ArrayVec<u64, MOST_TRANSFERS>,
+    entries: &mut [u64; MOST_TRANSFERS],
 ) -> Result<InRounds, Refusal>
-    requires { entries.old.items ≡ [] }
-    ensures { WorkedOut (texts_verdict old.now new.now) entries.new.items (transfer_numbers result) }
+    ensures { WorkedOut (texts_verdict old.now new.now) entries.new (transfer_numbers result) }
 {
-    let (old_keys, new_keys) = read_texts(old, new)?;
-    Ok(transfers_between(old_keys.as_slice(), new_keys.as_slice(), entries))
+    let mut oldkeys = [0u64; MOST_TRANSFERS];
+    let mut newkeys = [0u64; MOST_TRANSFERS];
+    let (old_copies, new_copies) = read_texts(old, new, &mut oldkeys, &mut newkeys)?;
+    Ok(transfers_between(&oldkeys[..old_copies], &newkeys[..new_copies], entries))
 }
 
 // Gives the transfers from an old plan's text to a new one's: the lent list gets an entry for each,
@@ -59,16 +57,16 @@ pub fn transfers_counted(
         counts.old counts.new (transfer_numbers result) }
     ensures unchanged { OnErr result ((list.new ≡ list.old) × (counts.new ≡ counts.old)) }
 {
-    let mut entries = ArrayVec::new();
+    let mut entries = [0u64; MOST_TRANSFERS];
     let made = work_out(old, new, &mut entries)?;
-    let listed = entries.as_slice();
-    let n = listed.len();
+    let n = made.transfers as usize;
     if list.len() < n {
         return Err(Refusal::TablesTooShort);
     }
     if counts.len() < ROWS {
         return Err(Refusal::TablesTooShort);
     }
+    let listed = &entries[..n];
     list[..n].copy_from_slice(listed);
     let table = count_transfers([[0; 9]; 9], listed);
     counts[..ROWS].copy_from_slice(&table);

@@ -11,7 +11,6 @@ const ROW: usize = 256;
 // on are known to be.
 #[derive(Drop)]
 pub(crate) struct Rounds {
-    // Kept: rows one behind the other, since `BusyTable` and `FullTable` number the places so.
     busy: [u8; 2304],
     full: [u64; 9],
     placed: usize,
@@ -59,7 +58,7 @@ impl Rounds {
         ensures bounds { (1 ≤ result) × (result ≤ self.now.placed + 1) }
     {
         let from = self.full[source].max(self.full[destination]);
-        // Kept: two zipped rows need four bounds and a `match`, and the round is counted all the same.
+        // The round is the answer and the place in both rows: two zipped rows would be counted too.
         for r in from as usize..self.placed {
             if both_free(
                 self.busy[source * ROW + r],

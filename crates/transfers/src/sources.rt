@@ -5,42 +5,41 @@ ghost use Rattle.transfer_schedule.specs.Stored.{source_of};
 ghost use Rattle.transfer_schedule.specs.Fits.{most_transfers};
 ghost use Rattle.transfers.specs.Keys.{stored_in, NoneBefore, NoneBefore-prop, SearchStarts};
 
-use crate::copy_key::CopyKey;
+use crate::stored::DISK;
 
 // Films are noted by their remainder by this number.
 const REMAINDERS: u64 = 4_096;
 
-// Notes where the search for each film starts, by its remainder: at its first place.
-pub(crate) fn note_starts(old: &[CopyKey], starts: &mut [u16; 4_096])
+// Notes where the search for each film starts, by its remainder. The place
+// itself is what is noted, so that it is counted.
+pub(crate) fn note_starts(old: &[u64], starts: &mut [u16; 4_096])
     requires { length old.now ≤ most_transfers }
     ensures { SearchStarts starts.new (map stored_in old.now) }
 {
-    for (i, key) in old.iter().enumerate().rev() {
-        starts[(key.film() % REMAINDERS) as usize] = i as u16;
+    for i in (0..old.len()).rev() {
+        starts[(old[i] % REMAINDERS) as usize] = i as u16;
     }
 }
 
 // The copies of an old plan, with the places from where each film is searched among them.
 #[derive(Clone, Copy)]
 pub(crate) struct Sources<'a> {
-    pub(crate) old: &'a [CopyKey],
+    pub(crate) old: &'a [u64],
     pub(crate) starts: &'a [u16; 4_096],
     ghost none_before: { NoneBefore starts.now (map stored_in old.now) } by { NoneBefore-prop starts.now (map stored_in old.now) },
 }
 
 impl<'a> Sources<'a> {
     // The first disk of the old plan that holds a film, or 0, the loader.
-    // Kept: 0, as the definition `source_of` and C's entries number the loader.
     pub(crate) fn source_of(&self, film: u64) -> u64
         ensures { result ≡ source_of (map stored_in self.now.old.now) «film» }
     {
         let old = self.old;
-        let start = usize::from(self.starts[(film % REMAINDERS) as usize]);
+        let start = self.starts[(film % REMAINDERS) as usize] as usize;
         let behind = &old[start.min(old.len())..];
-        // Kept: with `find` and `map_or` the answer's goal stayed open.
         for key in behind {
-            if key.film() == film {
-                return key.disk();
+            if *key % DISK == film {
+                return *key / DISK;
             }
         }
         0

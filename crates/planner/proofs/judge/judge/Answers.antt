@@ -1,16 +1,16 @@
 -- `planner::judge::judge` meets its contract: the tests that led to each `return` give the verdict.
-use mathlib.Core.Path.{◌≡◌, refl, sym, ap, ◌∙◌}
+use mathlib.Core.Path.{◌≡◌, refl, sym, ap, ap₂, ◌∙◌}
 use mathlib.Core.Bool.{true, false}
 use mathlib.Core.List.{List}
 use Prim.Native.Nat.{ℕ}
+use lib.ListN.{length}
 use Rattle.refusal.specs.Verdict.{Verdict, given, refused}
 use Rattle.refusal.proofs.Verdicts.{and_then, unless_passes, unless_refuses}
 use Rattle.std.proofs.lemmas.Result.{err_from_is_err_and}
 use Rattle.placement.specs.Rack.{Disk}
 use Rattle.placement.specs.Packed.{disks_in}
-use Rattle.placement.specs.LentTables.{held}
 use Rattle.placement.specs.Records.{record_count, shape_judged, records_judged, list_judged}
-use Rattle.placement.specs.Tables.{Tables, room_for}
+use Rattle.placement.specs.Tables.{Tables, room_in, room_for}
 use Rattle.placement.specs.Planning.{call, rack_judged, room_judged, verdict}
 use Rattle.placement.proofs.Chains.{rack_then, shape_then}
 use Rattle.planner.proofs.judge.judge.Goals as goal
@@ -49,12 +49,17 @@ module _ (rack : List Disk) (list : List ℕ) (t : Tables) where
     list_decides : room_for rack (record_count list) t ≡ true → list_judged list (given tt) ≡ verdict (call rack list) t
     list_decides e = sym (ap (shape_judged list) (unless_passes (room_for rack (record_count list) t) 7 0 from_records e)) ∙ shape_decides
 
+-- tables of these lengths have the room of these lengths
+room_by : (rack : List Disk) (n : ℕ) (t : Tables) {copies counts left : ℕ} → length t.copies ≡ copies → length t.counts ≡ counts
+    → length t.left ≡ left → room_for rack n t ≡ room_in rack n copies counts left
+room_by rack n t {copies} {counts} p q r = ap₂ (λ (a b : ℕ). room_in rack n a b (length t.left)) p q ∙ ap (room_in rack n copies counts) r
+
 pub returns-in_err-judge_rack : goal.returns-in_err-judge_rack
 returns-in_err-judge_rack c =
     let p = err_from_is_err_and c.from_residual.result c.from_residual.ensures.1 in
     rw (p.1, p.2)
-    (let a = c.args in
-    let t = held a.tables.now in
+    (λ t copies counts left.
+    let a = c.args in
     rack_refused (disks_in a.rack.now) a.list.now t _ refl c.in_err-judge_rack.ensures)
 
 pub returns-in_err-judge_shape : goal.returns-in_err-judge_shape
@@ -62,23 +67,23 @@ returns-in_err-judge_shape c =
     let p = err_from_is_err_and c.from_residual-in_err-judge_shape.result c.from_residual-in_err-judge_shape.ensures.1 in
     let accepted_rack : rack_judged {A = Unit {0}} (disks_in c.args.rack.now) (given tt) ≡ given tt = sym c.in_ok-judge_rack.ensures in
     rw (p.1, p.2)
-    (let a = c.args in
-    let t = held a.tables.now in
+    (λ t copies counts left.
+    let a = c.args in
     shape_refused (disks_in a.rack.now) a.list.now t accepted_rack _ refl c.in_err-judge_shape.ensures)
 
-pub returns-then-not-has_room : goal.returns-then-not-has_room
-returns-then-not-has_room c =
+pub returns-then-not-room : goal.returns-then-not-room
+returns-then-not-room c =
     let accepted_rack : rack_judged {A = Unit {0}} (disks_in c.args.rack.now) (given tt) ≡ given tt = sym c.in_ok-judge_rack.ensures in
+    λ t copies counts left.
     let a = c.args in
-    let t = held a.tables.now in
     room_refused (disks_in a.rack.now) a.list.now t accepted_rack (sym c.in_ok-judge_shape.ensures)
-    (sym c.has_room.ensures ∙ c.if-not-has_room.true)
+    (room_by (disks_in a.rack.now) (record_count a.list.now) t copies counts left ∙ sym c.room.ensures ∙ c.if-not-room.true)
 
 pub returns : goal.returns
 returns c =
     let accepted_rack : rack_judged {A = Unit {0}} (disks_in c.args.rack.now) (given tt) ≡ given tt = sym c.in_ok-judge_rack.ensures in
+    λ t copies counts left.
     let a = c.args in
-    let t = held a.tables.now in
     c.judge_list.ensures
     ∙ list_decides (disks_in a.rack.now) a.list.now t accepted_rack
-    (sym c.has_room.ensures ∙ c.if-not-has_room.false)
+    (room_by (disks_in a.rack.now) (record_count a.list.now) t copies counts left ∙ sym c.room.ensures ∙ c.if-not-room.false)

@@ -1,20 +1,20 @@
 -- `planner::window::find_window` meets its contract: the search through the openings goes on through the sliding windows.
 use mathlib.Core.Path.{◌≡◌, sym, ap, ◌∙◌}
 use mathlib.Core.Bool.{Bool, cond}
-use mathlib.Core.List.{List, map}
+use mathlib.Core.List.{List}
 use Prim.Native.Nat.{ℕ, ◌≤◌, ◌<◌}
 use native.Mathlib.Omega.{arith}
 use borrow.Author.Tests.{le-leb, lt-leb}
 use lib.Dec.{leb}
-use lib.ListN.{length, take, length-map}
+use lib.ListN.{length, take}
 use Rattle.placement.specs.Items.{Item, total}
 use Rattle.placement.specs.Rack.{disk}
-use Rattle.placement.specs.Window.{Window, window, within, openings, slidings, last_window, first_reaching, window_of}
+use Rattle.placement.specs.Window.{Window, window, openings, slidings, last_window, first_reaching, window_of}
 use Rattle.placement.proofs.Search.{first_reaching_append}
 use Rattle.placement.proofs.WindowCases.{take_min}
 use Rattle.planner.specs.Search.{Opened}
-use Rattle.planner.specs.Keys.{item_of}
-use Rattle.planner.specs.WorkingList.{items_in}
+use Rattle.placement.proofs.ReadBack.{front_length}
+use Rattle.planner.specs.Keys.{items_of}
 use Rattle.planner.proofs.window.find_window.Goals as goal
 
 module _ (slots load : ℕ) (list : List Item) (count sum : ℕ) (o : Opened slots load list count sum) where
@@ -48,17 +48,14 @@ module _ (slots load : ℕ) (list : List Item) (count sum : ℕ) (o : Opened slo
 pub returns-then-load-first : goal.returns-then-load-first
 returns-then-load-first c =
     let opened = c.opening-first.ensures in
-    let same : map item_of c.keys-keys.result.now ≡ items_in c.args.list.now = ap (map item_of) c.keys-keys.ensures.value in
     record {
-      size_value = opening_found c.args.slots c.args.load (map item_of c.keys-keys.result.now) c.opening-first.result.count c.opening-first.result.sum opened (omega arith) ∙ ap (window_of (disk c.args.slots c.args.load)) same;
-      sum_value = opened.sums ∙ ap (λ (list : List Item). total (take c.opening-first.result.count list)) same;
+      size_value = opening_found c.args.slots c.args.load (items_of c.args.n c.args.keys.now) c.opening-first.result.count c.opening-first.result.sum opened (omega arith);
+      sum_value = opened.sums;
     }
 
 pub returns : goal.returns
 returns c =
-    let keys : List ℕ = c.keys-keys.result.now in
-    let same : map item_of keys ≡ items_in c.args.list.now = ap (map item_of) c.keys-keys.ensures.value in
     record {
-      size_value = slide_found c.args.slots c.args.load (map item_of keys) c.opening-first.result.count c.opening-first.result.sum c.opening-first.ensures (length keys) (window c.slide.result.start c.slide.result.size) (length-map keys item_of) (omega arith) c.slide.ensures.size_value ∙ ap (window_of (disk c.args.slots c.args.load)) same;
-      sum_value = c.slide.ensures.sum_value ∙ ap (λ (list : List Item). total (within (window c.slide.result.start c.slide.result.size) list)) same;
+      size_value = slide_found c.args.slots c.args.load (items_of c.args.n c.args.keys.now) c.opening-first.result.count c.opening-first.result.sum c.opening-first.ensures c.args.n (window c.slide.result.start c.slide.result.size) (front_length c.args.n c.args.keys.now c.requires.n_in_bounds.0) (omega arith) c.slide.ensures.size_value;
+      sum_value = c.slide.ensures.sum_value;
     }

@@ -37,16 +37,16 @@ few entries i source destination counts less most counted s d =
     )
 
 pub bounds-counts-source : goal.bounds-counts-source
-bounds-counts-source c = rw (c.source_of-source.ensures) (fits c.args.entries.now c.loop-entry.entry-index c.requires.1 c.loop-entry-test.true).source
+bounds-counts-source c = (fits c.args.entries.now c.loop-entry.entry-index c.requires.1 c.loop-entry-test.true).source
 
 pub bounds-counts-destination : goal.bounds-counts-destination
-bounds-counts-destination c = rw (c.destination_of-destination.ensures) (fits c.args.entries.now c.loop-entry.entry-index c.requires.1 c.loop-entry-test.true).destination
+bounds-counts-destination c = (fits c.args.entries.now c.loop-entry.entry-index c.requires.1 c.loop-entry-test.true).destination
 
 pub bounds-counts-source-in-loop-entry : goal.bounds-counts-source-in-loop-entry
-bounds-counts-source-in-loop-entry c = rw (c.source_of-source.ensures) (fits c.args.entries.now c.loop-entry.entry-index c.requires.1 c.loop-entry-test.true).source
+bounds-counts-source-in-loop-entry c = (fits c.args.entries.now c.loop-entry.entry-index c.requires.1 c.loop-entry-test.true).source
 
 pub bounds-counts-destination-in-loop-entry : goal.bounds-counts-destination-in-loop-entry
-bounds-counts-destination-in-loop-entry c = rw (c.destination_of-destination.ensures) (fits c.args.entries.now c.loop-entry.entry-index c.requires.1 c.loop-entry-test.true).destination
+bounds-counts-destination-in-loop-entry c = (fits c.args.entries.now c.loop-entry.entry-index c.requires.1 c.loop-entry-test.true).destination
 
 pub overflow_add-counts : goal.overflow_add-counts
 overflow_add-counts c =
@@ -55,11 +55,11 @@ overflow_add-counts c =
     let less = c.loop-entry-test.true in
     let fit = fits entries i c.requires.1 less in
     let t = at_place entries i in
-    rw (c.source_of-source.ensures, c.destination_of-destination.ensures) (omega (
+    omega (
       arith,
       few entries i t.source t.destination c.loop-entry.counts less c.requires.2 c.loop-entry.invariant fit.source fit.destination,
       few entries i t.destination t.source c.loop-entry.counts less c.requires.2 c.loop-entry.invariant fit.destination fit.source,
-    ))
+    )
 
 pub loop-entry-preserved : goal.loop-entry-preserved
 loop-entry-preserved c =
@@ -67,8 +67,7 @@ loop-entry-preserved c =
     let i = c.loop-entry.entry-index in
     let t = at_place entries i in
     let fit = fits entries i c.requires.1 c.loop-entry-test.true in
-    rw (c.source_of-source.ensures, c.destination_of-destination.ensures)
-    (ap (λ (table : List (List ℕ)). set table t.source (set (get_or table t.source []) t.destination (count_at table t.source t.destination + 1)))
+    ap (λ (table : List (List ℕ)). set table t.source (set (get_or table t.source []) t.destination (count_at table t.source t.destination + 1)))
     c.loop-entry.invariant
     ∙ table_more (map transfer_in (take i entries)) t fit.source fit.destination
-    ∙ ap count_table (sym (mapped_more transfer_in 0 entries i c.loop-entry-test.true)))
+    ∙ ap count_table (sym (mapped_more transfer_in 0 entries i c.loop-entry-test.true))

@@ -1,9 +1,9 @@
 -- `transfers::place` meets its contract: the source and the round are those of the definition.
 use mathlib.Core.Path.{◌≡◌, ap, ap₂, subst, ◌∙◌}
 use mathlib.Core.List.{List, [], ◌∷◌, ◌++◌, map}
-use Prim.Native.Nat.{ℕ, ◌≤◌}
+use Prim.Native.Nat.{ℕ, ◌/◌, ◌%◌, ◌≤◌}
 use native.Mathlib.Omega.{arith}
-use Rattle.transfer_schedule.specs.Stored.{StoredCopy, source_of}
+use Rattle.transfer_schedule.specs.Stored.{StoredCopy}
 use Rattle.transfer_schedule.specs.Schedule.{Transfer, transfer, transfer_for, earliest}
 use Rattle.transfer_schedule.specs.Transfers.{transfer_entry}
 use Rattle.transfer_schedule.proofs.Sources.{source_fits}
@@ -12,35 +12,30 @@ use Rattle.transfers.proofs.schedule.place.Goals as goal
 
 pub entry_of-requires : goal.entry_of-requires
 entry_of-requires c =
-    let old : List StoredCopy = map stored_in c.args.sources.now.old.now in
-    let source_few : c.source_of-source.result ≤ 8 = omega (arith, c.source_of-source.ensures, source_fits old c.film-film.result c.requires.copy_fits.1) in
-    rw (c.film-film.ensures, c.disk-destination.ensures) (record {
+    let source_few : c.source_of-source.result ≤ 8 = omega (arith, c.source_of-source.ensures, source_fits (map stored_in c.args.sources.now.old.now) (c.args.key % 16777216) c.requires.copy_fits.1) in
+    let film : ℕ = c.args.key % 16777216 in
+    record {
       source = omega (arith, source_few);
       destination = omega (arith, c.requires.copy_fits.0.disk);
       film = c.requires.copy_fits.0.film;
       round = omega (arith, c.take-round.ensures.upper_bound, c.requires.placed);
-    })
+    }
 
 pub take-round-requires : goal.take-round-requires
 take-round-requires c =
-    let old : List StoredCopy = map stored_in c.args.sources.now.old.now in
-    let source_few : c.source_of-source.result ≤ 8 = omega (arith, c.source_of-source.ensures, source_fits old c.film-film.result c.requires.copy_fits.1) in
+    let source_few : c.source_of-source.result ≤ 8 = omega (arith, c.source_of-source.ensures, source_fits (map stored_in c.args.sources.now.old.now) (c.args.key % 16777216) c.requires.copy_fits.1) in
     record {
-      ends = (omega (arith, source_few), omega (arith, c.disk-destination.ensures, c.requires.copy_fits.0.disk));
+      ends = (omega (arith, source_few), omega (arith, c.requires.copy_fits.0.disk));
       placed = c.requires.placed;
     }
 
 pub returns : goal.returns
 returns c =
+    let film : ℕ = c.args.key % 16777216 in
     let old : List StoredCopy = map stored_in c.args.sources.now.old.now in
-    let copy : StoredCopy = stored_in c.args.key in
-    let film : ℕ = c.film-film.result in
-    let disk : ℕ = c.disk-destination.result in
-    let source : c.source_of-source.result ≡ source_of old copy.film = c.source_of-source.ensures ∙ ap (source_of old) c.film-film.ensures in
+    let disk : ℕ = c.args.key / 16777216 in
     let made : Transfer = transfer c.source_of-source.result disk film c.take-round.result in
-    let made_is : (placed : List Transfer) → c.take-round.result ≡ earliest placed c.source_of-source.result disk → made ≡ transfer_for old placed copy = (λ placed first.
-    ap₂ (λ (d f : ℕ). transfer c.source_of-source.result d f c.take-round.result) c.disk-destination.ensures c.film-film.ensures
-    ∙ ap₂ (λ (s r : ℕ). transfer s copy.disk copy.film r) source (first ∙ ap₂ (λ (s d : ℕ). earliest placed s d) source c.disk-destination.ensures)) in
+    let made_is : (placed : List Transfer) → c.take-round.result ≡ earliest placed c.source_of-source.result disk → made ≡ transfer_for old placed (stored_in c.args.key) = (λ placed first. ap₂ (λ (s r : ℕ). transfer s disk film r) c.source_of-source.ensures (first ∙ ap (λ (s : ℕ). earliest placed s disk) c.source_of-source.ensures)) in
     record {
       placed_next = λ placed long table. let taken = c.take-round.ensures.round_taken placed long table in (c.entry_of.ensures ∙ ap transfer_entry (made_is placed taken.0), subst (λ (t : Transfer). BusyTable c.take-round.new.self.busy (placed ++ (t ∷ []))) (made_is placed taken.0) (taken.1 film));
       placed = c.take-round.ensures.placed;

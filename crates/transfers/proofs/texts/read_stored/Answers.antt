@@ -10,6 +10,7 @@ use Rattle.std.specs.Prelude.{Ok, Err}
 use Rattle.std.proofs.lemmas.Result.{err_from_is_err_and}
 use Rattle.refusal.specs.Verdict.{Verdict, given}
 use Rattle.refusal.specs.Numbers.{refusal_of}
+use Rattle.placement.specs.Copies.{Copy}
 use Rattle.placement.specs.Rack.{Disk, most_disks, rack_accepted}
 use Rattle.placement.specs.Packed.{disks_in}
 use Rattle.placement.specs.Tables.{Tables, tables, own_tables}
@@ -24,7 +25,7 @@ use Rattle.reader.specs.Promise.{ReadPromise}
 use Rattle.reader.proofs.OwnReading.{read_refused, read_given, formed_read, rack_few, rack_read_lem, copies_read, unused_read}
 use Rattle.reader.proofs.PackedDisks.{take_disks}
 use Rattle.transfer_schedule.specs.Stored.{stored_from}
-use Rattle.transfers.specs.Keys.{TablesFit, StoredText}
+use Rattle.transfers.specs.Keys.{TablesFit, KeysHold, StoredText}
 use Rattle.transfers.proofs.texts.read_stored.Goals as goal
 
 pub returns-in_err-plan : goal.returns-in_err-plan
@@ -37,7 +38,7 @@ returns-in_err-plan c =
     let promised : ReadPromise text (disks_in c.args.rack.now) own_tables (disks_in rack) after (numbers_of (Err r)) = subst (λ (t : Tables). ReadPromise text (disks_in c.args.rack.now) t (disks_in rack) after (numbers_of (Err r))) c.new-own.ensures c.in_err-plan.ensures.promise in
     let p = err_from_is_err_and c.from_residual.result c.from_residual.ensures.1 in
     rw (p.1, p.2)
-    (subst (λ (v : Verdict Plan). StoredText v rack (refusal_of r))
+    (subst (λ (v : Verdict Plan). StoredText v rack c.args.keys.now (refusal_of r))
     (sym (read_refused text _ enough promised r refl)) refl)
 
 pub returns : goal.returns
@@ -52,19 +53,19 @@ returns c =
     let few : disks ≤ length rack = omega (arith, found.2, rack_few text _ enough promised found.0 found.1, c.read.auto.rack, c.told-rack) in
     let rack_is : disks_in (take disks rack) ≡ found.0.rack = take_disks disks rack ∙ ap (λ (n : ℕ). take n (disks_in rack)) found.2 ∙ rack_read_lem text _ enough promised found.0 found.1 in
     let copies_are : marked_from (disks_in (take disks rack)) after.copies after.counts ≡ found.0.copies = ap (λ (ds : List Disk). marked_from ds after.copies after.counts) rack_is ∙ copies_read text _ enough promised found.0 found.1 in
+    let v : Verdict (ℕ × ℕ) = given c.stored_copies.result in
+    let keys = c.stored_copies.new.keys in
     let p = found.0 in
     let number : length (take disks rack) ≡ length p.rack = length-take-le _ _ few ∙ found.2 in
-    subst (λ (w : Verdict Plan). StoredText w rack (given (disks, c.stored_copies-keys.result))) (sym found.1) (
+    subst (λ (w : Verdict Plan). StoredText w rack keys v) (sym found.1) (
       ap (λ (n : ℕ). disks_in (take n rack)) (sym found.2) ∙ rack_is,
-      (
-        c.stored_copies-keys.result,
-        ap (λ (n : ℕ). given (n, c.stored_copies-keys.result)) found.2,
-        λ small. c.stored_copies-keys.ensures (omega (arith, number, small)) ∙ ap (stored_from 1) copies_are,
-      ),
+      subst (λ (cs : List (List Copy)). KeysHold (length p.rack) (stored_from 1 cs) keys v) copies_are
+          (subst (λ (n : ℕ). KeysHold n (stored_from 1 (marked_from (disks_in (take disks rack)) after.copies after.counts)) keys v)
+          number c.stored_copies.ensures),
     )
 
-pub stored_copies-keys-requires : goal.stored_copies-keys-requires
-stored_copies-keys-requires c =
+pub stored_copies-requires : goal.stored_copies-requires
+stored_copies-requires c =
     let after : Tables = tables c.read.new.copies c.read.new.counts c.read.new.left in
     let text : List ℕ = c.args.text.now in
     let rack : List ℕ = c.read.new.rack in
@@ -80,4 +81,5 @@ stored_copies-keys-requires c =
     record {
       tables_fit = subst (λ (ds : List Disk). TablesFit ds after.copies after.counts) (sym rack_is) fits;
       rack_value = ap rack_accepted rack_is ∙ accepted;
+      keys_len = c.told-keys;
     }

@@ -4,7 +4,6 @@ use mathlib.Core.List.{List}
 use Prim.Native.Nat.{ℕ}
 use lib.ListN.{take}
 use Rattle.std.proofs.lemmas.Result.{err_from_is_err_and}
-use Rattle.arrayvec.specs.ArrayVec.{ArrayVec}
 use Rattle.refusal.specs.Verdict.{Verdict, given}
 use Rattle.placement.specs.Packed.{disks_in}
 use Rattle.plan_text.specs.ReadCall.{text_verdict}
@@ -15,28 +14,28 @@ use Rattle.transfers.proofs.texts.read_texts.Goals as goal
 
 -- Two texts that are read, whose racks are judged.
 both_judged :
-    (old new oldrack newrack : List ℕ) (m n : ℕ) (olds news : ArrayVec ℕ) (first : ReadAs (text_verdict old) oldrack m olds)
-    (second : ReadAs (text_verdict new) newrack n news) (v : Verdict (Unit {0}))
+    (old new oldrack newrack oldkeys newkeys : List ℕ) (m n p q : ℕ) (first : ReadAs (text_verdict old) oldrack oldkeys m p)
+    (second : ReadAs (text_verdict new) newrack newkeys n q) (v : Verdict (Unit {0}))
     → v ≡ racks_judged (disks_in (take m oldrack)) (disks_in (take n newrack)) (given (tt {0}))
-    → StoredTexts (texts_verdict old new) (carried (given (olds, news)) v)
-both_judged old new oldrack newrack m n olds news first second v e =
-    both_stored (text_verdict old) (text_verdict new) oldrack m olds first _
-    (new_judged (text_verdict new) newrack n news second (disks_in (take m oldrack)) olds _ (judged_with (disks_in (take m oldrack)) (disks_in (take n newrack)) (given (olds, news)) v e))
+    → StoredTexts (texts_verdict old new) oldkeys newkeys (carried (given (p, q)) v)
+both_judged old new oldrack newrack oldkeys newkeys m n p q first second v e =
+    both_stored (text_verdict old) (text_verdict new) oldrack oldkeys newkeys m p first _
+    (new_judged (text_verdict new) newrack newkeys n q second (disks_in (take m oldrack)) p _ (judged_with (disks_in (take m oldrack)) (disks_in (take n newrack)) (given (p, q)) v e))
 
 pub judge_racks-requires : goal.judge_racks-requires
 judge_racks-requires c = (
-  read_accepted c.args.old.now _ _ _ (read_as _ _ _ _ c.in_ok-old_disks.ensures),
-  read_accepted c.args.new.now _ _ _ (read_as _ _ _ _ c.in_ok-new_disks.ensures),
+  read_accepted c.args.old.now _ _ _ _ (read_as _ _ _ _ _ c.in_ok-old_disks.ensures),
+  read_accepted c.args.new.now _ _ _ _ (read_as _ _ _ _ _ c.in_ok-new_disks.ensures),
 )
 
 pub returns-in_err-judge_racks : goal.returns-in_err-judge_racks
 returns-in_err-judge_racks c =
     let p = err_from_is_err_and c.from_residual-in_err-judge_racks.result c.from_residual-in_err-judge_racks.ensures.1 in
     rw (p.1, p.2)
-    (both_judged c.args.old.now c.args.new.now _ _ _ _ _ _ (read_as _ _ _ _ c.in_ok-old_disks.ensures) (read_as _ _ _ _ c.in_ok-new_disks.ensures)
+    (both_judged c.args.old.now c.args.new.now _ _ _ _ _ _ _ _ (read_as _ _ _ _ _ c.in_ok-old_disks.ensures) (read_as _ _ _ _ _ c.in_ok-new_disks.ensures)
     _ c.in_err-judge_racks.ensures)
 
 pub returns : goal.returns
 returns c =
-    both_judged c.args.old.now c.args.new.now _ _ _ _ _ _ (read_as _ _ _ _ c.in_ok-old_disks.ensures) (read_as _ _ _ _ c.in_ok-new_disks.ensures)
+    both_judged c.args.old.now c.args.new.now _ _ _ _ _ _ _ _ (read_as _ _ _ _ _ c.in_ok-old_disks.ensures) (read_as _ _ _ _ _ c.in_ok-new_disks.ensures)
     (given (tt {0})) c.in_ok-judge_racks.ensures
