@@ -4,7 +4,7 @@ use mathlib.Core.List.{List, [], ◌∷◌, ◌++◌, map}
 use Prim.Native.Nat.{ℕ, ◌+◌, ◌-◌, ◌≤◌, ◌<◌}
 use native.Mathlib.Omega.{arith}
 use Rattle.std.specs.Prelude.{Some, None, Err}
-use lib.ListN.{length, take, drop, get_or, set, length-set, length-take, length-drop, length-map, length-replicate}
+use lib.ListN.{length, take, drop, set, length-set, length-take, length-drop, length-map, length-replicate}
 use borrow.Rule.Slice.PartMut.{put_mid, same_len_mid}
 use Rattle.refusal.specs.declared.Refusal.TheVariants.{Line}
 use Rattle.placement.specs.Items.{Item}
@@ -14,10 +14,7 @@ use Rattle.placement.specs.Plan.{disk_accepted, marks_accepted, copies_accepted}
 use Rattle.placement.specs.Held.{front}
 use Rattle.placement.proofs.Conjunctions.{both_true}
 use Rattle.placement.proofs.Racks.{accepted_disks}
-use Rattle.placement.specs.Packed.{disk_in, disks_in}
-use Rattle.placement.proofs.PackedRacks.{disks_length}
 use Rattle.placement.proofs.Offsets.{disk_at}
-use Rattle.reader.proofs.PackedDisks.{disk_at_lem}
 use Rattle.plan_text.specs.Text.{disk_head}
 use Rattle.plan_text.specs.Parse.{Parse}
 use Rattle.plan_text.specs.Reading.{line, copies_body, read_disks}
@@ -32,22 +29,9 @@ use Rattle.reader.proofs.DiskTables.{filled_more, served_end, copied_end}
 use Rattle.reader.proofs.DiskReading.{disks_more, disks_refused}
 use Rattle.reader.proofs.DisksSoFar.{SoFar}
 
-module _ (text packed : List ℕ) {copies₀ counts₀ : List ℕ} (ready : DisksReady (disks_in packed) copies₀ counts₀) where
-  abbrev rack : List Disk
-  rack = disks_in packed
-
-  module _ {copies counts here : List ℕ} {sum from i k : ℕ} (now : SoFar text rack copies₀ counts₀ copies counts here sum from i)
-      (before : i < length packed) (slots_are : k ≡ (disk_in (get_or packed i 0)).slots) where
-    -- The disk whose line is read.
-    abbrev d : Disk
-    d = disk_in (get_or packed i 0)
-
-    is : disk_at rack i ≡ d
-    is = disk_at_lem packed i
-
-    less : i < length rack
-    less = omega (arith, disks_length packed, before)
-
+module _ {text : List ℕ} {rack : List Disk} {copies₀ counts₀ : List ℕ} (ready : DisksReady rack copies₀ counts₀) where
+  module _ {copies counts here : List ℕ} {sum from i k : ℕ} {d : Disk} (now : SoFar text rack copies₀ counts₀ copies counts here sum from i)
+      (less : i < length rack) (is : disk_at rack i ≡ d) (slots_are : k ≡ d.slots) where
     abbrev size : ℕ
     size = (from + k) - from
 
