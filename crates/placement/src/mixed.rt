@@ -75,10 +75,15 @@ pub fn judge_rack(rack: &[u64]) -> Result<(), Refusal>
 pub fn all_slots(rack: &[u64]) -> usize
     ensures { result ≡ min (all_slots (disks_in rack.now)) (most_disks * most_slots) }
 {
-    rack.iter()
-        .map(|disk| disk_slots(*disk).0 as usize)
-        .fold(0, usize::saturating_add)
-        .min(MOST_PLACES)
+    let mut sum = 0;
+    for disk in rack {
+        let slots = disk_slots(*disk).0 as usize;
+        if MOST_PLACES - sum < slots {
+            return MOST_PLACES;
+        }
+        sum += slots;
+    }
+    sum
 }
 
 // Whether so many places are enough for all slots: each disk takes its own.
