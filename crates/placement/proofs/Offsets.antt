@@ -4,7 +4,7 @@ use mathlib.Core.List.{List, [], ◌∷◌}
 use Prim.Native.Nat.{ℕ, zero, suc, ◌+◌, ◌≤◌, ◌<◌}
 use native.Mathlib.Omega.{arith}
 use lib.ListN.{length, take, drop, get_or}
-use Rattle.placement.specs.Rack.{Disk, disk, all_slots}
+use Rattle.placement.specs.Rack.{Disk, disk, rack_of, all_slots}
 use Rattle.placement.specs.Held.{front, copies_from}
 
 -- The first place of a disk, counted from 0.
@@ -32,6 +32,17 @@ pub offset_room : (rack : List Disk) (d : ℕ) → d < length rack → offset ra
 offset_room [] d h = absurd (omega arith)
 offset_room (x ∷ xs) zero h = omega arith
 offset_room (x ∷ xs) (suc d) h = omega (arith, offset_room xs d (omega arith))
+
+-- The first place behind the last disk is behind all slots.
+pub offset_all : (rack : List Disk) → offset rack (length rack) ≡ all_slots rack
+offset_all [] = refl
+offset_all (x ∷ xs) = omega (arith, offset_all xs)
+
+-- In a rack of equal disks every disk is the same.
+pub rack_disk : (n k l d : ℕ) → d < n → disk_at (rack_of n k l) d ≡ disk k l
+rack_disk zero k l d h = absurd (omega arith)
+rack_disk (suc n) k l zero h = refl
+rack_disk (suc n) k l (suc d) h = rack_disk n k l d (omega arith)
 
 -- The copies that tables hold from a disk on: its own, then those from the next disk on.
 pub copies_from_lem :

@@ -3,6 +3,7 @@ use mathlib.Core.Path.{◌≡◌, refl, sym, ap, ap₂, ◌∙◌}
 use mathlib.Core.Bool.{Bool, true, false, ◌&&◌}
 use mathlib.Core.List.{List, [], ◌∷◌}
 use Prim.Native.Nat.{ℕ, zero, suc, ◌*◌, ◌≤◌, min}
+use native.Mathlib.Nat.{zero-mul, suc-mul}
 use native.Mathlib.Omega.{arith}
 use lib.Dec.{eqb}
 use borrow.Author.Tests.{eqb-true}
@@ -12,7 +13,16 @@ use Rattle.placement.specs.Rack.{Disk, disk, rack_of, all_slots, all_loads, firs
 use Rattle.placement.proofs.Conjunctions.{both_true}
 use Rattle.placement.proofs.Tests.{in_range_bounds}
 
--- The rack of N equal disks has N of them.
+-- N equal disks have N times the slots of one, and N times its streams.
+pub rack_slots : (n k l : ℕ) → all_slots (rack_of n k l) ≡ n * k
+rack_slots zero k l = omega (arith, zero-mul k)
+rack_slots (suc n) k l = omega (arith, suc-mul n k, rack_slots n k l)
+
+pub rack_loads : (n k l : ℕ) → all_loads (rack_of n k l) ≡ n * l
+rack_loads zero k l = omega (arith, zero-mul l)
+rack_loads (suc n) k l = omega (arith, suc-mul n l, rack_loads n k l)
+
+-- They are N.
 pub rack_length : (n k l : ℕ) → length (rack_of n k l) ≡ n
 rack_length n k l = length-replicate n (disk k l)
 

@@ -2,9 +2,9 @@
 use mathlib.Core.Path.{◌≡◌, refl}
 use mathlib.Core.Bool.{true}
 use mathlib.Core.List.{List, [], ◌∷◌}
-use Prim.Native.Nat.{◌≤◌}
+use Prim.Native.Nat.{ℕ, zero, suc, ◌≤◌}
 use native.Mathlib.Omega.{arith}
-use lib.ListN.{length}
+use lib.ListN.{length, take}
 use Rattle.placement.specs.Items.{Item, list_of}
 use Rattle.placement.specs.Rack.{Disk, rack_accepted, most_demand}
 use Rattle.placement.specs.Disk.{copies_of, list_after}
@@ -24,6 +24,12 @@ use Rattle.placement.proofs.WindowSums.{windows_summed, window_summed}
 -- The disks of an accepted rack can be used, in filling order.
 pub accepted_usable : (rack : List Disk) → rack_accepted rack ≡ true → Usable (filling rack)
 accepted_usable rack e = range_usable (filling rack) (each_filling DiskInRange rack (accepted_range rack e))
+
+-- The first disks of those that can be used can be used.
+pub usable_take : (n : ℕ) (rack : List Disk) → Usable rack → Usable (take n rack)
+usable_take zero rack usable = tt
+usable_take (suc n) [] usable = tt
+usable_take (suc n) (d ∷ ds) usable = (usable.0, usable.1, usable_take n ds usable.2)
 
 -- The method's list of accepted records holds entries.
 pub list_of_entries : (records : List Item) → RecordsAccepted records → Each (Entry most_demand) (list_of records)
