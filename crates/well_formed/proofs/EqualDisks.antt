@@ -21,14 +21,14 @@ abbrev like_first : List ℕ → ℕ → Bool
 like_first s e = eqb (first_slots (disks_in s)) (disk_in e).slots && eqb (first_load (disks_in s)) (disk_in e).load
 
 -- It does where the numbers are the same,
-like_same : (s : List ℕ) (e : ℕ) → 1 ≤ length s → e ≡ get_or s 0 0 → like_first s e ≡ true
+pub like_same : (s : List ℕ) (e : ℕ) → 1 ≤ length s → e ≡ get_or s 0 0 → like_first s e ≡ true
 like_same s e some is =
     ap (λ (x : ℕ). like_first s x) is
     ∙ ap₂ (λ (k l : ℕ). eqb k (disk_in (get_or s 0 0)).slots && eqb l (disk_in (get_or s 0 0)).load) (first_slots_lem s some) (first_load_lem s some)
     ∙ ap₂ ◌&&◌ (eqb_same (disk_in (get_or s 0 0)).slots) (eqb_same (disk_in (get_or s 0 0)).load)
 
 -- and only there.
-like_other : (s : List ℕ) (e : ℕ) → 1 ≤ length s → (e ≡ get_or s 0 0 → ⊥) → like_first s e ≡ false
+pub like_other : (s : List ℕ) (e : ℕ) → 1 ≤ length s → (e ≡ get_or s 0 0 → ⊥) → like_first s e ≡ false
 like_other s e some other =
     by_test (like_first s e)
     (λ held.
