@@ -38,7 +38,14 @@ checked_none list seen e = record {
 pub checked_all : (list : List ℕ) (seen : List Bool) (i : ℕ) → Checked list seen i → length list / 8 ≤ i → given tt ≡ judged_records list
 checked_all list seen i s h = sym (s.verdict ∙ verdict_from_end list i h)
 
--- Record i is read, with its film and its demand: the tests on what was read are those of the record.
+-- Record i is read, with its film and its demand.
+pub record Reading (list : List ℕ) (seen : List Bool) (i film demand : ℕ) : Type 0 where
+  pub checked : Checked list seen i
+  pub here : i < length list / 8
+  pub film_is : film ≡ number32 list (8 * i)
+  pub demand_is : demand ≡ number32 list (8 * i + 4)
+
+-- The tests on what was read are those of the record.
 module _ {list : List ℕ} {seen : List Bool} {i film demand : ℕ} (checked : Checked list seen i) (here : i < length list / 8)
     (film_is : film ≡ number32 list (8 * i)) (demand_is : demand ≡ number32 list (8 * i + 4)) where
   film_test : (b : Bool) → in_range most_plan_film film ≡ b → in_range most_plan_film (number32 list (8 * i)) ≡ b
@@ -71,6 +78,10 @@ module _ {list : List ℕ} {seen : List Bool} {i film demand : ℕ} (checked : C
       pub refuses_demand : most_demand < demand → refused 5 (i + 1) ≡ judged_records list
       refuses_demand h = refuses 5 (demand_refused list i here passed listed (demand_test false (lt-leb demand most_demand h)))
 
+      -- The film has a place in the table.
+      pub film_placed : film < length seen
+      film_placed = omega (arith, film_listed, checked.films)
+
       module _ (demand_passed : demand ≤ most_demand) where
         wanted : leb (number32 list (8 * i + 4)) most_demand ≡ true
         wanted = demand_test true (le-leb demand most_demand demand_passed)
@@ -87,6 +98,6 @@ module _ {list : List ℕ} {seen : List Bool} {i film demand : ℕ} (checked : C
           verdict = checked.verdict
               ∙ record_passed list i here passed listed wanted (not-false _ (marks_read seen list i film false film_is checked.marks e))
               ∙ ap (λ (k : ℕ). verdict_from list k) (sym (add-one i));
-          marks = marks_record seen list i film film_is (omega (arith, film_listed, checked.films)) checked.marks;
+          marks = marks_record seen list i film film_is film_placed checked.marks;
           films = length-set seen film true ∙ checked.films;
         }
