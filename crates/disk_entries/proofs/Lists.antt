@@ -32,6 +32,15 @@ module _ {X : Type 0} where
       next : suc i ≡ i + 1
       next = omega arith
 
+  -- Where one of the lists ends, as much of the new list as fits stands in front of what it does not reach.
+  pub over_least : (new old : List X) (i : ℕ) → i ≡ min (length new) (length old) → over new old i ≡ take (length old) new ++ drop (length new) old
+  over_least [] old zero e = ap (λ (r : List X). r ++ old) (sym (take_all (length old) [] (omega arith)))
+  over_least [] old (suc i) e = absurd (omega (arith, e))
+  over_least (x ∷ new) [] zero e = refl
+  over_least (x ∷ new) [] (suc i) e = absurd (omega (arith, e))
+  over_least (x ∷ new) (y ∷ old) zero e = absurd (omega (arith, e))
+  over_least (x ∷ new) (y ∷ old) (suc i) e = ap (λ (r : List X). x ∷ r) (over_least new old i (omega (arith, e)))
+
 -- Setting a place, and then a function on every place.
 pub map_set : {X Y : Type 0} (f : X → Y) (xs : List X) (i : ℕ) (x : X) → map f (set xs i x) ≡ set (map f xs) i (f x)
 map_set f [] i x = refl
