@@ -1,6 +1,6 @@
 -- The tests are those of `disk_accepted`, in its order.
-use Rattle.std.proofs.Common.{sym, ◌∙◌, arith, length}
-use borrow.Author.Tests.{leb-true}
+use Rattle.std.proofs.Common.{sym, ◌∙◌, arith}
+use Rattle.std.proofs.lemmas.Bool.Decides.{nat_tests}
 use Rattle.placement.proofs.Conjunctions.{false_true}
 use Rattle.well_formed.proofs.Sums.{copies_fit_lem}
 use Rattle.well_formed.proofs.copies.copies_fit.Goals as goal
@@ -17,7 +17,7 @@ returns-then-every_copy_accepted c =
                 (sym v.distinct_films.ensures ∙ sym v.value-is ∙ w.if-distinct_films.true)
                 (sym w.every_copy_accepted.ensures ∙ sym w.value-is ∙ c.if-every_copy_accepted.true)
                 (omega arith) c.total.ensures.always)
-            | else-copies-slots v ↦ absurd (omega (arith, leb-true (length c.args.copies.now) c.args.slots.0 (sym v.value-is ∙ w.if-distinct_films.true), v.if-copies-slots.false))
+            | else-copies-slots v ↦ absurd (grind (arith, nat_tests, v.value-is, w.if-distinct_films.true, v.if-copies-slots.false))
           ]
       | else-distinct_films w ↦ false_true (sym w.if-distinct_films.false ∙ sym w.value-is ∙ c.if-every_copy_accepted.true)
     ]

@@ -1,14 +1,13 @@
--- The test of every place, as the definition has it.
-use Rattle.std.proofs.Common.{◌∙◌, rules}
-use Rattle.std.proofs.lemmas.Iterator.{YieldsList-from_slice}
-use Rattle.std.proofs.lemmas.Iterator.Search.{all_from_yields_List}
-use borrow.Author.Tests.{tests}
-use lib.Dec.{eqb}
-use Rattle.well_formed.proofs.Walks.{zero_all}
+-- The test of every place, whatever goes over the places, as the definition has it.
+use Rattle.std.proofs.Common.{◌≡◌, Decides, eqb, refl, rules}
+use Rattle.std.specs.List.{All}
+use Rattle.std.proofs.lemmas.Bool.Decides.{same_from_decides, Decides-by_and, Decides-eqb}
+use Rattle.plan_text.specs.Held.{all_zero}
 use Rattle.well_formed.proofs.places.all_zero.Goals as goal
 
 pub returns : goal.returns
 returns c =
-    all_from_yields_List (λ n. eqb n 0) _ _ _ c.all.ensures.ran
-    (YieldsList-from_slice c.args.places.now cc) (λ x b q k. search (rules, tests))
-    ∙ zero_all c.args.places.now
+    let places = c.args.places.now in
+    let every : Decides c.all.result (All (λ n. n ≡ 0) places) = search rules in
+    same_from_decides _ (all_zero places) every
+    (Decides-by_and (λ n. eqb n 0) (λ n. n ≡ 0) all_zero (λ n. Decides-eqb n 0) refl (λ _ _. refl) places)
