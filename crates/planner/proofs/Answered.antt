@@ -49,6 +49,14 @@ module _ (c : Call) (t : Tables) where
     pub behind_refused : (r : Refusal) → refusal_of r ≡ last (verdict c t) → BehindPromise c other t t (plan_numbers (Err r))
     behind_refused r e = record { numbers = ap (answer_for c) e; tables = ap (tables_for c t) e }
 
+    -- A refusal of planning's own does,
+    pub behind_first : (r : Refusal) → refusal_of r ≡ verdict c t → BehindPromise c other t t (plan_numbers (Err r))
+    behind_first r e = behind_refused r (ap last e)
+
+    -- and where planning refuses nothing, so does the other judgement's.
+    pub behind_second : (r : Refusal) → verdict c t ≡ given tt → other ≡ refusal_of r → BehindPromise c other t t (plan_numbers (Err r))
+    behind_second r e is = behind_refused r (sym is ∙ ap last (sym e))
+
     pub behind_passes : given tt ≡ last (verdict c t) → verdict c t ≡ given tt
     behind_passes e = go (verdict c t) e
       where
