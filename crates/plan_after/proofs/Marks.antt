@@ -1,10 +1,10 @@
 -- Marking disk by disk: what is left to mark gives the whole.
 use mathlib.Core.Path.{◌≡◌, refl, sym, ap, ap₂, ◌∙◌}
 use mathlib.Core.List.{List, [], ◌∷◌, map, ◌++◌, append_assoc, append-nil}
-use Prim.Native.Nat.{ℕ, suc, ◌+◌, ◌≤◌, ◌<◌}
+use Prim.Native.Nat.{ℕ, zero, suc, ◌+◌, ◌≤◌, ◌<◌}
 use native.Mathlib.Numerals.{add-one}
 use native.Mathlib.Omega.{arith}
-use lib.ListN.{length, take, drop, get_or, length-append, length-map, length-drop, take-append-drop, drop_of_length-le}
+use lib.ListN.{length, take, drop, get_or, set, length-append, length-map, length-drop, take-append-drop, drop_of_length-le}
 use lib.Seq.{take_at, drop_at, length-take-le}
 use borrow.Rule.Slice.PartMut.{put_mid}
 use Rattle.placement.specs.Items.{Item}
@@ -13,13 +13,25 @@ use Rattle.placement.specs.Packed.{disk_in, disks_in}
 use Rattle.placement.specs.Tables.{written}
 use Rattle.placement.proofs.Offsets.{offset, disk_at, disks_from, offset_room}
 use Rattle.placement.proofs.PackedRacks.{disks_length, disk_packed}
-use Rattle.placement.proofs.Written.{written_more, overwritten, overwritten_all}
+use Rattle.placement.proofs.Written.{written_more, overwritten, overwritten_length, overwritten_all}
 use Rattle.plan_after.specs.Marking.{marked_entry, marked_places}
 
 -- A table that is changed entry by entry: the entries before a place are changed.
 module _ (f : ℕ → ℕ) where
   abbrev pub changed_to : List ℕ → ℕ → List ℕ
   changed_to old i = overwritten (map f old) old i
+
+  -- One entry more.
+  pub changed_more : (old : List ℕ) (i : ℕ) → i < length old → set (changed_to old i) i (f (get_or (changed_to old i) i 0)) ≡ changed_to old (i + 1)
+  changed_more old i h = go old i h ∙ ap (changed_to old) (sym (add-one i))
+    where
+      go : (old : List ℕ) (i : ℕ) → i < length old → set (changed_to old i) i (f (get_or (changed_to old i) i 0)) ≡ changed_to old (suc i)
+      go [] i h = absurd (omega arith)
+      go (x ∷ old) zero h = refl
+      go (x ∷ old) (suc i) h = ap (λ (r : List ℕ). f x ∷ r) (go old i (omega arith))
+
+  pub changed_length : (old : List ℕ) (i : ℕ) → i ≤ length old → length (changed_to old i) ≡ length old
+  changed_length old i h = overwritten_length (map f old) old i (omega (arith, length-map old f)) h
 
   -- All of them.
   pub changed_all : (old : List ℕ) (i : ℕ) → i ≤ length old → length old ≤ i → changed_to old i ≡ map f old

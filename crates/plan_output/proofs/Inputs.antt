@@ -54,7 +54,7 @@ module _ (input : List ℕ) where
       ∙ ap (λ (n : ℕ). call (rack_of (number32 input 0) (number32 input 4) n) (drop head_bytes input)) l
 
 -- The first n of equal numbers are n equal disks.
-equal_disks : (n number : ℕ) {d : Disk} → n ≤ 64 → disk_in number ≡ d → disks_in (take n (replicate 64 number)) ≡ replicate n d
+pub equal_disks : (n number : ℕ) {d : Disk} → n ≤ 64 → disk_in number ≡ d → disks_in (take n (replicate 64 number)) ≡ replicate n d
 equal_disks n number {d} few is = go n 64 few
   where
     go : (n m : ℕ) → n ≤ m → disks_in (take n (replicate m number)) ≡ replicate n d
