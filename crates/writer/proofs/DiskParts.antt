@@ -92,6 +92,16 @@ module _ (rack : List ℕ) (d : ℕ) (more : d < length rack) (k : ℕ) (slots :
     count_within e = omega (arith, unused_within (disks_in rack) copies counts e d inside, slots_here)
 
     module _ (counted : d < length counts) (first : ℕ) where
+      -- The tests from disk d on, where its places are those from `first` on: its own, then those from the next disk on.
+      pub formed_next :
+          disks_formed (drop d (disks_in rack)) (drop first copies) (drop d counts)
+          ≡ (disk_formed (disk_in (get_or rack d 0)) (get_or counts d 0) (drop first copies)
+          && disks_formed (drop (d + 1) (disks_in rack)) (drop (first + k) copies) (drop (d + 1) counts))
+      formed_next =
+          rw add-one (formed_from (disks_in rack) (drop first copies) counts d inside counted
+          ∙ ap₂ (λ (x : Disk) (s : ℕ). disk_formed x (get_or counts d 0) (drop first copies) && disks_formed (drop (suc d) (disks_in rack)) (drop s (drop first copies)) (drop (suc d) counts)) (disk_packed rack d) slots_here
+          ∙ ap (λ (behind : List ℕ). disk_formed (disk_in (get_or rack d 0)) (get_or counts d 0) (drop first copies) && disks_formed (drop (suc d) (disks_in rack)) behind (drop (suc d) counts)) (drop-drop k first copies))
+
       -- The copies from disk d on: its own, as they are lent, then those from the next disk on.
       pub copies_next :
           marked_from (drop d (disks_in rack)) (drop first copies) (drop d counts)

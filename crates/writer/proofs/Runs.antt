@@ -1,5 +1,5 @@
 -- The lines of a text as the runs that the writer stores.
-use Rattle.std.proofs.Common.{◌≡◌, ℕ, zero, suc, ◌+◌, ◌<◌, ◌≤◌, List, [], ◌∷◌, ◌++◌, map, length, get_or, take, take_all, arith, sym, refl, ap, ◌∙◌, append_assoc}
+use Rattle.std.proofs.Common.{◌≡◌, ℕ, zero, suc, ◌+◌, ◌<◌, ◌≤◌, List, [], ◌∷◌, ◌++◌, map, length, get_or, take, drop, take_all, arith, sym, refl, ap, ◌∙◌, append_assoc, add-one, drop-cons}
 use Rattle.std.proofs.lemmas.Grind.{common_steps}
 use Rattle.std.specs.List.{flat_map}
 use Rattle.placement.specs.Items.{Item}
@@ -11,6 +11,10 @@ use Rattle.plan_text.specs.Ascii.{ascii}
 use Rattle.plan_text.specs.Decimal.{decimal}
 use Rattle.plan_text.specs.Text.{space, closed, line_feed, pair_text, pairs_text, mark_end, copy_text, spaced_text, copies_text, lines, disks_then, rack_line, disk_item, first_line, disk_line, left_line, served_line, text_of}
 use Rattle.writer.specs.Space.{two_text, disk_lines}
+
+-- What stands from i on is the element at i and what stands from i + 1 on.
+pub drop_next : (l : List ℕ) (i : ℕ) → i < length l → drop i l ≡ get_or l i 0 ∷ drop (i + 1) l
+drop_next l i h = rw (add-one, drop-cons l i 0)
 
 -- The entries of a line, one behind the other, and the closing bracket.
 spaced_runs : (text : ℕ → List ℕ) (es : List ℕ) → flat_map (λ e. space ∷ text e) es ++ (closed ∷ []) ≡ spaced_text text es
