@@ -5,7 +5,7 @@ use mathlib.Core.List.{List, ◌++◌}
 use Prim.Native.Nat.{ℕ, ◌*◌, ◌≤◌}
 use native.Mathlib.Omega.{arith}
 use lib.Dec.{leb}
-use lib.ListN.{length, take, drop}
+use lib.ListN.{length, take, drop, length-take}
 use Rattle.refusal.specs.Verdict.{Verdict, given, refused, unless, Numbers}
 use Rattle.refusal.specs.Numbers.{number_of}
 use Rattle.refusal.specs.declared.Refusal.{Refusal}
@@ -13,12 +13,13 @@ use Rattle.refusal.specs.declared.Refusal.TheVariants.{TablesTooShort}
 use Rattle.refusal.proofs.Verdicts.{unless_refuses}
 use Rattle.placement.specs.Rack.{Disk, all_slots, most_disks, most_slots}
 use Rattle.placement.specs.Packed.{disks_in}
-use Rattle.placement.specs.Tables.{Tables, room_for}
+use Rattle.placement.specs.Tables.{Tables, room_in, room_for, own_tables}
 use Rattle.placement.specs.Plan.{Plan, most_left, well_formed}
 use Rattle.placement.proofs.Conjunctions.{both_true}
 use Rattle.placement.proofs.Racks.{accepted_disks, accepted_all_slots}
 use Rattle.placement.proofs.PackedRacks.{disks_length}
 use Rattle.placement.proofs.Formed.{plan_rack, plan_left, left_count}
+use Rattle.placement.proofs.OwnTables.{own_room}
 use Rattle.plan_text.specs.ReadCall.{Told, answer_to, text_verdict, with_tables}
 use Rattle.plan_text.proofs.Verdicts.{verdict_well_formed}
 use Rattle.reader.specs.declared.answer.PlanRead.{PlanRead}
@@ -82,15 +83,30 @@ module _ (text packed : List ℕ) {work work' : Tables} {r : PlanRead}
   room_same : (t : Tables) → room_for rack r.left t ≡ room_for p.rack (length p.left) t
   room_same t = ap₂ (λ (ds : List Disk) (n : ℕ). room_for ds n t) rack_same left_same
 
-  -- They are few, and their slots are those of an accepted rack.
+  -- They are few, among those that were packed, and their slots are those of an accepted rack.
   pub work_few : r.disks ≤ most_disks
   work_few = omega (arith, disks_same, (accepted_disks p.rack (plan_rack p formed)).1)
+
+  pub work_among : r.disks ≤ length packed
+  work_among =
+      omega (arith, disks_same, ap length rack_same, disks_length (take r.disks packed), length-take r.disks packed)
 
   pub work_slots : all_slots rack ≤ most_disks * most_slots
   work_slots = omega (arith, ap all_slots rack_same, accepted_all_slots p.rack (plan_rack p formed))
 
   pub work_left : r.left ≤ most_left
   work_left = omega (arith, left_same, left_count p.left (plan_left p formed))
+
+  -- The tables to work in have room.
+  pub work_room :
+      work ≡ own_tables → length work'.copies ≡ length work.copies → length work'.counts ≡ length work.counts
+      → length work'.left ≡ length work.left → room_for rack r.left work' ≡ true
+  work_room own a b c =
+      ap₂ (λ (i j : ℕ). room_in rack r.left i j (length work'.left)) a b
+      ∙ ap (λ (k : ℕ). room_in rack r.left (length work.copies) (length work.counts) k) c
+      ∙ ap (room_for rack r.left) own
+      ∙ room_same own_tables
+      ∙ own_room p.rack (length p.left) (plan_rack p formed) (left_count p.left (plan_left p formed))
 
   -- The list of disks and the tables that are lent.
   module _ (lent : List ℕ) (entry : Tables) where

@@ -41,7 +41,7 @@ end_only more (b ∷ bs) e = go (eqb b closed) (eqb b space) e
 -- Pairs or copies, each read by `one`.
 module _ (one : List ℕ → Parse Item) where
   -- With no place left, only the end follows.
-  spaced_none : (t : List ℕ) → spaced_read one 0 t ≡ ending t
+  pub spaced_none : (t : List ℕ) → spaced_read one 0 t ≡ ending t
   spaced_none [] = refl
   spaced_none (b ∷ bs) = go (eqb b closed) (eqb b space)
     where
@@ -51,9 +51,13 @@ module _ (one : List ℕ → Parse Item) where
       go false false = refl
 
   -- Where no space follows, only the end does.
-  spaced_last : (m : ℕ) (t : List ℕ) → byte space t ≡ unparsed → spaced_read one m t ≡ ending t
-  spaced_last zero t e = end_only (λ s. unparsed) t e
-  spaced_last (suc m) t e = end_only (λ s. next (one s) (λ x after. next (spaced_read one m after) (λ xs end. parsed (x ∷ xs) end))) t e
+  pub spaced_last :
+      (m : ℕ) (p : Parse (Unit {0})) → next p (λ u t. byte space t) ≡ unparsed
+      → next p (λ u t. spaced_read one m t) ≡ next p (λ u t. ending t)
+  spaced_last zero (parsed tt t) e = end_only (λ s. unparsed) t e
+  spaced_last (suc m) (parsed tt t) e =
+      end_only (λ s. next (one s) (λ x after. next (spaced_read one m after) (λ xs end. parsed (x ∷ xs) end))) t e
+  spaced_last m unparsed e = refl
 
   -- The pairs so far, before what the rest reads.
   abbrev pub reads_on : List Item → ℕ → List ℕ → Parse (List Item)
@@ -87,14 +91,20 @@ module _ (one : List ℕ → Parse Item) where
   ended before (parsed tt s) = rw append-nil
   ended before unparsed = refl
 
-  -- The closing bracket ends the pairs, where no place is left or no space follows.
+  -- The closing bracket ends the pairs, where only the end follows,
+  pub reads_on_end :
+      (before : List Item) (m : ℕ) (t : List ℕ) → spaced_read one m t ≡ ending t
+      → reads_on before m t ≡ next (byte closed t) (λ u s. parsed before s)
+  reads_on_end before m t last =
+      ap (λ (p : Parse (List Item)). next p (λ xs end. parsed (before ++ xs) end)) last ∙ ended before (byte closed t)
+
+  -- as where no place is left or no space follows.
   pub reads_on_none : (before : List Item) (t : List ℕ) → reads_on before 0 t ≡ next (byte closed t) (λ u s. parsed before s)
-  reads_on_none before t = ap (λ (p : Parse (List Item)). next p (λ xs end. parsed (before ++ xs) end)) (spaced_none t) ∙ ended before (byte closed t)
+  reads_on_none before t = reads_on_end before 0 t (spaced_none t)
 
   pub reads_on_last :
       (before : List Item) (m : ℕ) (t : List ℕ) → byte space t ≡ unparsed → reads_on before m t ≡ next (byte closed t) (λ u s. parsed before s)
-  reads_on_last before m t e =
-      ap (λ (p : Parse (List Item)). next p (λ xs end. parsed (before ++ xs) end)) (spaced_last m t e) ∙ ended before (byte closed t)
+  reads_on_last before m t e = reads_on_end before m t (spaced_last m (parsed tt t) e)
 
 -- In the middle of a line of pairs or copies: n of them stand at the front of the entries, before what the bytes `here` say.
 module _ (one : List ℕ → Parse Item) (text here entries now : List ℕ) (n : ℕ)
