@@ -12,6 +12,16 @@ abbrev pub replaced_to : {A : Type 0} → (new old : List A) → ℕ → List A
 replaced_to new old i = take i new ++ drop i old
 
 module _ {A : Type 0} (none : A) where
+  step : (new old : List A) (i : ℕ) → i < length new → i < length old → set (replaced_to new old i) i (get_or new i none) ≡ replaced_to new old (suc i)
+  step [] old i h k = absurd (omega arith)
+  step (x ∷ new) [] i h k = absurd (omega arith)
+  step (x ∷ new) (y ∷ old) zero h k = refl
+  step (x ∷ new) (y ∷ old) (suc i) h k = ap (λ (r : List A). x ∷ r) (step new old i (omega arith) (omega arith))
+
+  -- One member more.
+  pub replaced_more : (new old : List A) (i : ℕ) → i < length new → i < length old → set (replaced_to new old i) i (get_or new i none) ≡ replaced_to new old (i + 1)
+  replaced_more new old i h k = rw add-one (step new old i h k)
+
   -- All of them.
   pub replaced_all : (new old : List A) (i n : ℕ) → i ≡ n → length new ≡ n → replaced_to new old i ≡ new ++ drop n old
   replaced_all new old i n e l =

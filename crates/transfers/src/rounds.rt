@@ -1,6 +1,6 @@
 // Rounds: a table says in which rounds each end is busy, and another how many from the first on are
 // known to be.
-ghost use Rattle.std.specs.Prelude.{◌≡◌, [], ◌+◌, ◌-◌, ◌*◌, ◌≤◌, ◌<◌, ◌&&◌, eqb, set};
+ghost use Rattle.std.specs.Prelude.{◌≡◌, [], ◌+◌, ◌-◌, ◌*◌, ◌≤◌, ◌<◌, ◌&&◌, eqb, get_or, set};
 ghost use Rattle.transfer_schedule.specs.Counts.{ends};
 ghost use Rattle.transfers.specs.Keys.{row_length, BusyTable, FullTable, next_full, EarliestFor, RoundTaken};
 
@@ -76,6 +76,8 @@ impl Rounds {
         requires { (end < ends) × (1 ≤ round) × (round ≤ self.old.placed)
             × (self.old.placed ≤ row_length) }
         ensures busy { self.new.busy ≡ set self.old.busy («end» * row_length + («round» - 1)) 1 }
+        ensures full { self.new.full
+            ≡ set self.old.full «end» (next_full (get_or self.old.full «end» 0) «round») }
         ensures placed { self.new.placed ≡ self.old.placed }
     {
         self.busy[end * ROW + (round - 1)] = 1;
