@@ -2,6 +2,8 @@
 // input of which the program keeps a part.
 #![tactic(auto)]
 
+ghost use Rattle.std.specs.Prelude.{◌≤◌, length, IfOk};
+
 use plan_output::{MOST_KEPT, keep, output};
 use std::io::Read;
 use std::rt::Files;
@@ -17,7 +19,9 @@ fn read_file<'a>(
     rt: &(impl Files + Print),
     name: &[u8],
     space: &'a mut [u8],
-) -> io::Result<&'a [u8]> {
+) -> io::Result<&'a [u8]>
+    ensures { IfOk result (λ read. length read.now ≤ length space.old) }
+{
     if let Ok(name) = str::from_utf8(name) {
         if let Ok(file) = fs::open(rt, name) {
             let most = space.len();

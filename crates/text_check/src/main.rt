@@ -12,6 +12,8 @@ mod plan;
 mod reading;
 mod writing;
 
+ghost use Rattle.std.specs.Prelude.{◌≤◌, length, IfOk};
+
 use case::Case;
 use std::io::Read;
 use std::rt::Files;
@@ -22,7 +24,9 @@ const FILE: usize = 131_072;
 
 // Reads as much of a file of cases as the space holds: no bytes of a missing one.
 // Kept: like plan_cases', but a crate for both would be longer than the four lines.
-fn read_file<'a>(rt: &impl Files, name: &str, space: &'a mut [u8]) -> io::Result<&'a [u8]> {
+fn read_file<'a>(rt: &impl Files, name: &str, space: &'a mut [u8]) -> io::Result<&'a [u8]>
+    ensures { IfOk result (λ read. length read.now ≤ length space.old) }
+{
     let Ok(file) = fs::open(rt, name) else {
         return Ok(&[]);
     };
