@@ -8,7 +8,6 @@ use crate::plain::{Call, Disk, Planned, Refused, Sums, plan, total};
 use crate::rack::{MOST_DISKS, rack_of};
 use crate::tables::Tables;
 use arrayvec::ArrayVec;
-use placement::{Slots, Streams, disk_of};
 use planner::PlanSums;
 use refusal::Refusal;
 
@@ -49,11 +48,16 @@ impl From<Refusal> for Refused {
     }
 }
 
+// A disk as the documents pack it: its slots in the low half, its streams above. `placement` is not
+// asked, so that the answers differ if it takes slots for streams, both ways.
+fn packed(disk: &Disk) -> u64 {
+    u64::from(disk.slots) | (u64::from(disk.load) << 32)
+}
+
 // What the proved planner answers on the lent parts of the tables.
 fn proved_answer(call: &Call) -> Result<Answer, Full> {
-    let disks = call.rack.iter();
     let mut rack = ArrayVec::<u64, MOST_DISKS>::new();
-    rack.extend(disks.map(|disk| disk_of(Slots(disk.slots), Streams(disk.load))))?;
+    rack.extend(call.rack.iter().map(packed))?;
     let mut tables = Tables::unused();
     let copies = call.lent.copies.min(tables.copies.len());
     let counts = call.lent.counts.min(tables.counts.len());
