@@ -48,8 +48,8 @@ impl From<Refusal> for Refused {
     }
 }
 
-// A disk as the documents pack it: its slots in the low half, its streams above. `placement` is not
-// asked, so that the answers differ if it takes slots for streams, both ways.
+// A disk as one number, as the documents have it: its slots, and from bit 32 on its streams.
+// Kept: by bits, apart from the library, so that the answers differ where it exchanges the two.
 fn packed(disk: &Disk) -> u64 {
     u64::from(disk.slots) | (u64::from(disk.load) << 32)
 }
