@@ -1,13 +1,13 @@
 -- A rack of packed disks gone over from one disk to the next: its ranges, its ratios and its slots.
 use mathlib.Core.Path.{◌≡◌, refl, sym, ap, ◌∙◌}
 use mathlib.Core.Bool.{Bool, true, false, ◌&&◌}
-use mathlib.Core.List.{List, [], ◌∷◌}
-use Prim.Native.Nat.{ℕ, suc, ◌+◌, ◌≤◌, ◌<◌}
+use mathlib.Core.List.{List, [], ◌∷◌, map}
+use Prim.Native.Nat.{ℕ, suc, ◌+◌, ◌≤◌, ◌<◌, min}
 use native.Mathlib.Numerals.{add-one}
 use native.Mathlib.Omega.{arith}
 use lib.ListN.{length, get_or, drop, length-map, drop_of_length-le, get_or-map}
 use lib.Seq.{drop-cons}
-use Rattle.std.specs.List.{list_all}
+use Rattle.std.specs.List.{list_all, fold}
 use Rattle.refusal.specs.Verdict.{Verdict, given, refused, unless}
 use Rattle.placement.specs.Rack.{Disk, first_slots, first_load, all_slots, disk_in_range, all_in_range, disks_in_range, same_ratio, in_range, most_disks}
 use Rattle.placement.specs.Packed.{disk_in, disks_in}
@@ -43,10 +43,18 @@ first_load_lem (n ∷ ns) some = refl
 abbrev pub ratios_judged : (slots load position : ℕ) → List Disk → Verdict (Unit {0})
 ratios_judged slots load position ds = ratio_judged_from slots load position ds (given tt)
 
--- The ranges of all disks, one number after the other.
+-- The ranges of all disks, one number after the other,
 pub all_disks_in_range : (rack : List ℕ) → list_all (λ number. disk_in_range (disk_in number)) rack ≡ all_in_range (disks_in rack)
 all_disks_in_range [] = refl
 all_disks_in_range (n ∷ ns) = ap (λ (b : Bool). disk_in_range (disk_in n) && b) (all_disks_in_range ns)
+
+-- and all slots, added up and cut off at the largest number of 64 bits.
+pub slots_folded :
+    (rack : List ℕ) (sum : ℕ) → sum ≤ 18446744073709551615
+    → fold (λ sum slots. min (sum + slots) 18446744073709551615) sum (map (λ number. (disk_in number).slots) rack) ≡ min (sum + all_slots (disks_in rack)) 18446744073709551615
+slots_folded [] sum small = omega arith
+slots_folded (n ∷ ns) sum small =
+    slots_folded ns (min (sum + (disk_in n).slots) 18446744073709551615) (omega arith) ∙ omega arith
 
 module _ (rack : List ℕ) (d : ℕ) (here : d < length rack) where
   -- The disks from one on: it, and those behind it.
